@@ -1,0 +1,81 @@
+// What a command can answer: the refusals, the levels that a trap goes to, and the answers of a session's lines.
+ghost use mathlib.Core.Path.{_≡_};
+ghost use Rattle.answer.specs.Numbers.{refusalNumber, levelNumber};
+
+// Why an input or a record is refused. specs/Numbers.antt has document 01's number of each.
+pub enum Refusal {
+    UnknownCommand,
+    Truncated,
+    UnknownField,
+    ValueTooLarge,
+    LevelTooLarge,
+    SessionTooLong,
+    FieldTooLarge,
+    LevelUnavailable,
+    El2Unimplemented,
+    HpmnAboveN,
+    HpmnZero,
+    CounterTooWide,
+    HostAtEl1,
+    FeatureMissing,
+}
+
+// The exception level that takes a trap.
+pub enum Level {
+    El1,
+    El2,
+    El3,
+}
+
+// Where an access is trapped to, and the 32 bits of its syndrome.
+pub struct Trap {
+    pub target: Level,
+    pub syndrome: u32,
+}
+
+// All that a session's line shows behind its position. `Mrs` is the value of an access with its Rt, `Value` that of an
+// external read.
+pub enum Answer {
+    Ok,
+    End,
+    Undef,
+    Other,
+    Error,
+    Trap(Trap),
+    Value(u64),
+    Mrs { value: u64, rt: u8 },
+    Refused(Refusal),
+}
+
+// Document 01's number of a refusal.
+pub fn refusal_number(r: Refusal) -> u8
+    ensures { λ n. ⌜ n ≡ refusalNumber r ⌝ }
+{
+    match r {
+        Refusal::UnknownCommand => 1,
+        Refusal::Truncated => 2,
+        Refusal::UnknownField => 3,
+        Refusal::ValueTooLarge => 4,
+        Refusal::LevelTooLarge => 5,
+        Refusal::SessionTooLong => 6,
+        Refusal::FieldTooLarge => 10,
+        Refusal::LevelUnavailable => 11,
+        Refusal::El2Unimplemented => 12,
+        Refusal::HpmnAboveN => 13,
+        Refusal::HpmnZero => 14,
+        Refusal::CounterTooWide => 15,
+        Refusal::HostAtEl1 => 16,
+        Refusal::FeatureMissing => 17,
+    }
+}
+
+// The level as a number.
+pub fn level_number(l: Level) -> u8
+    ensures { λ n. ⌜ n ≡ levelNumber l ⌝ }
+{
+    match l {
+        Level::El1 => 1,
+        Level::El2 => 2,
+        Level::El3 => 3,
+    }
+}

@@ -1,0 +1,98 @@
+-- The fresh record, and records that differ from a given one in a single part.
+use Prim.Native.Nat.{ℕ}
+use mathlib.Core.Bool.{false}
+use mathlib.Core.List.{List}
+use lib.ListN.{replicate}
+use Rattle.machine.specs.declared.Features.{Features}
+use Rattle.machine.specs.declared.Settings.{Settings}
+use Rattle.machine.specs.declared.Machine.{Machine}
+
+abbrev pub noFeatures : Features
+noFeatures =
+    record {
+      pmuv3 = false;
+      p5 = false;
+      p9 = false;
+      icntr = false;
+      fgt = false;
+      fgt2 = false;
+      hpmn0 = false;
+      ext32 = false;
+      ext64 = false;
+      el2 = false;
+      el3 = false;
+      el3prio = false;
+      n = 0;
+    }
+
+abbrev pub noSettings : Settings
+noSettings =
+    record {
+      features = noFeatures;
+      execution = record { el2enabled = false; halted = false; sdd = false };
+      pmuserenr = record { en = false; sw = false; er = false; uen = false; ir = false };
+      hcr = record { e2h = false; tge = false };
+      mdcr2 = record { tpm = false; hpmn = 0 };
+      mdcr3 = record { tpm = false; enpm2 = false };
+      scr = record { fgten = false; fgten2 = false };
+      hdfgrtr = record { pmevcntrn = false; npmicntr = false };
+      hdfgwtr = record { pmevcntrn = false; pmswinc = false; npmicntr = false };
+      pmuacr = record { p = 0; f0 = false };
+      cnten = 0;
+      external = record { powered = false; doublelock = false; oslock = false; allowed = false; softwarelock = false };
+    }
+
+-- 01: "Fresh: everything 0."
+abbrev pub fresh : Machine
+fresh =
+    record {
+      level = 0;
+      settings = noSettings;
+      events = replicate 31 0;
+      counters = replicate 31 0;
+      instructions = 0;
+    }
+
+-- the record with its level put to l
+abbrev pub withLevel : ℕ → Machine → Machine
+withLevel l m =
+    record {
+      level = l;
+      settings = m .settings;
+      events = m .events;
+      counters = m .counters;
+      instructions = m .instructions;
+    }
+
+-- the record with these settings
+abbrev pub withSettings : Settings → Machine → Machine
+withSettings s m =
+    record {
+      level = m .level;
+      settings = s;
+      events = m .events;
+      counters = m .counters;
+      instructions = m .instructions;
+    }
+
+-- the record with these event counters
+abbrev pub withCounters : List ℕ → Machine → Machine
+withCounters c m =
+    record {
+      level = m .level;
+      settings = m .settings;
+      events = m .events;
+      counters = c;
+      instructions = m .instructions;
+    }
+
+-- the record with this instruction counter
+abbrev pub withInstructions : ℕ → Machine → Machine
+withInstructions i m =
+    record {
+      level = m .level;
+      settings = m .settings;
+      events = m .events;
+      counters = m .counters;
+      instructions = i;
+    }

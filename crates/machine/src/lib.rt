@@ -1,0 +1,141 @@
+// The machine record of document 01: one struct for each register or group of fields. specs/Store.antt is the table of
+// field numbers, specs/Fields.antt has the largest value of each.
+pub mod fresh; // fresh.rt: the fresh record
+pub mod fields; // fields.rt: the largest value of a field, by its number
+mod store; // store.rt: the parts of the record with one field stored, by its number
+pub mod set; // set.rt: the set and level commands
+pub mod state; // state.rt: what a decision looks at, and the state refusals
+
+use answer::Answer;
+use answer::Refusal;
+
+// What the processor implements: FEAT_PMUv3, PMUv3p5, PMUv3p9, PMUv3_ICNTR, FGT, FGT2, HPMN0, PMUv3_EXT32 and
+// PMUv3_EXT64, EL2 and EL3, the choice "EL3 trap priority when SDD == '1'", and N, the number of event counters.
+pub struct Features {
+    pub pmuv3: bool,
+    pub p5: bool,
+    pub p9: bool,
+    pub icntr: bool,
+    pub fgt: bool,
+    pub fgt2: bool,
+    pub hpmn0: bool,
+    pub ext32: bool,
+    pub ext64: bool,
+    pub el2: bool,
+    pub el3: bool,
+    pub el3prio: bool,
+    pub n: u64,
+}
+
+// EL2Enabled(), Halted() and EDSCR.SDD.
+pub struct Execution {
+    pub el2enabled: bool,
+    pub halted: bool,
+    pub sdd: bool,
+}
+
+// PMUSERENR_EL0.
+pub struct Pmuserenr {
+    pub en: bool,
+    pub sw: bool,
+    pub er: bool,
+    pub uen: bool,
+    pub ir: bool,
+}
+
+// HCR_EL2.
+pub struct Hcr {
+    pub e2h: bool,
+    pub tge: bool,
+}
+
+// MDCR_EL2.
+pub struct Mdcr2 {
+    pub tpm: bool,
+    pub hpmn: u64,
+}
+
+// MDCR_EL3.
+pub struct Mdcr3 {
+    pub tpm: bool,
+    pub enpm2: bool,
+}
+
+// SCR_EL3.
+pub struct Scr {
+    pub fgten: bool,
+    pub fgten2: bool,
+}
+
+// The fine-grained trap bits of reads: HDFGRTR_EL2.PMEVCNTRn_EL0 and HDFGRTR2_EL2.nPMICNTR_EL0.
+pub struct Hdfgrtr {
+    pub pmevcntrn: bool,
+    pub npmicntr: bool,
+}
+
+// The fine-grained trap bits of writes: HDFGWTR_EL2.PMEVCNTRn_EL0 and .PMSWINC_EL0, and HDFGWTR2_EL2.nPMICNTR_EL0.
+pub struct Hdfgwtr {
+    pub pmevcntrn: bool,
+    pub pmswinc: bool,
+    pub npmicntr: bool,
+}
+
+// PMUACR_EL1: the bits P<m> as one number, and F0.
+pub struct Pmuacr {
+    pub p: u64,
+    pub f0: bool,
+}
+
+// What decides about external accesses: IsCorePowered(), DoubleLockStatus(), OSLockStatus(),
+// AllowExternalPMUAccess() and SoftwareLockStatus().
+pub struct External {
+    pub powered: bool,
+    pub doublelock: bool,
+    pub oslock: bool,
+    pub allowed: bool,
+    pub softwarelock: bool,
+}
+
+// All that a decision about an access may look at, besides the level. `cnten` holds the counter enables of PMCNTENSET_EL0.
+pub struct Settings {
+    pub features: Features,
+    pub execution: Execution,
+    pub pmuserenr: Pmuserenr,
+    pub hcr: Hcr,
+    pub mdcr2: Mdcr2,
+    pub mdcr3: Mdcr3,
+    pub scr: Scr,
+    pub hdfgrtr: Hdfgrtr,
+    pub hdfgwtr: Hdfgwtr,
+    pub pmuacr: Pmuacr,
+    pub cnten: u64,
+    pub external: External,
+}
+
+// The machine record: the exception level, the settings, the event number and value of each event counter, and PMICNTR_EL0.
+pub struct Machine {
+    pub level: u8,
+    pub settings: Settings,
+    pub events: [u16; 31],
+    pub counters: [u64; 31],
+    pub instructions: u64,
+}
+
+// What a command answers, and the record after it.
+pub struct Outcome {
+    pub answer: Answer,
+    pub machine: Machine,
+}
+
+// What a decision about an access may look at: of the counters, only refusal 15's test, `wide`.
+pub struct View {
+    pub level: u8,
+    pub settings: Settings,
+    pub wide: bool,
+}
+
+// The state test: the record is consistent, or refused with the lowest number that applies.
+pub enum Verdict {
+    Consistent,
+    Refused(Refusal),
+}
