@@ -75,6 +75,26 @@ withSettings s m =
       instructions = m .instructions;
     }
 
+-- the record with these counter enables
+abbrev pub withCnten : ℕ → Machine → Machine
+withCnten e m =
+    withSettings
+    (record {
+      features = m .settings .features;
+      execution = m .settings .execution;
+      pmuserenr = m .settings .pmuserenr;
+      hcr = m .settings .hcr;
+      mdcr2 = m .settings .mdcr2;
+      mdcr3 = m .settings .mdcr3;
+      scr = m .settings .scr;
+      hdfgrtr = m .settings .hdfgrtr;
+      hdfgwtr = m .settings .hdfgwtr;
+      pmuacr = m .settings .pmuacr;
+      cnten = e;
+      external = m .settings .external;
+    })
+    m
+
 -- the record with these event counters
 abbrev pub withCounters : List ℕ → Machine → Machine
 withCounters c m =
