@@ -6,3 +6,4 @@ pub mod Permitted
 pub mod Step
 pub mod External
 pub mod Examples
+pub mod Isolation

@@ -1,6 +1,6 @@
 -- The by-value step: decide, by a view in which there is no counter, then apply; and a list of accesses, each with its own level.
 use Prim.Native.Nat.{ℕ, suc, _+_, _%_, _^_}
-use mathlib.Core.Bool.{Bool, cond, not, _&&_, _||_}
+use mathlib.Core.Bool.{Bool, false, cond, not, _&&_, _||_}
 use mathlib.Core.List.{List, [], _∷_}
 use lib.Dec.{leb, eqb}
 use lib.ListN.{getD, set}
@@ -25,23 +25,35 @@ use Rattle.rules.specs.Permitted.{pmevcntrAccess, pmswincAccess, pmicntr
 
 -- an access that the order of traps passes does as permitted; "A trap answers the target level and the syndrome"
 abbrev pub unlessStopped : ℕ → Stop → Decision → Decision
-unlessStopped w Stop.Pass permitted = permitted
-unlessStopped w Stop.Undef permitted = Says Answer.Undef
-unlessStopped w (Stop.Trap l) permitted = Says (Answer.Trap (record { target = l; syndrome = syndrome w }))
+unlessStopped w Stop.Pass d = d
+unlessStopped w Stop.Undef d = Says Answer.Undef
+unlessStopped w (Stop.Trap l) d = Says (Answer.Trap (record { target = l; syndrome = syndrome w }))
 
--- "Undefined at once: PMEVCNTR or PMSWINC without PMUv3, PMICNTR without ICNTR, MRS of PMSWINC, PMEVCNTR with m >= N.", then the
--- order of traps, then the permitted access; "All other words answer `other`."
+-- "Undefined at once: PMEVCNTR or PMSWINC without PMUv3, PMICNTR without ICNTR, MRS of PMSWINC, PMEVCNTR with m >= N."
+abbrev pub undefinedAtOnce : View → Register → ℕ → Bool
+undefinedAtOnce v (Pmevcntr m) w = not (v .settings .features .pmuv3) || leb (v .settings .features .n) m
+undefinedAtOnce v Pmswinc w = not (v .settings .features .pmuv3) || isRead w
+undefinedAtOnce v Pmicntr w = not (v .settings .features .icntr)
+undefinedAtOnce v Other w = false
+
+-- 01, "Order of traps", for the register that the word names
+abbrev pub stopOf : View → Register → ℕ → Stop
+stopOf v (Pmevcntr m) w = pmevcntrStop v (isRead w) m
+stopOf v Pmswinc w = pmswincStop v
+stopOf v Pmicntr w = pmicntrStop v (isRead w)
+stopOf v Other w = Stop.Pass
+
+-- 01, "Permitted accesses"; "All other words answer `other`."
+abbrev pub permitted : View → Register → ℕ → ℕ → Decision
+permitted v (Pmevcntr m) w x = pmevcntrAccess v m w x
+permitted v Pmswinc w x = pmswincAccess w x
+permitted v Pmicntr w x = pmicntrAccess v w x
+permitted v Other w x = Says Answer.Other
+
+-- the access to a register of a consistent record: undefined at once, or stopped by the order of traps, or permitted
 unfoldable pub decideRegister : View → Register → ℕ → ℕ → Decision
-decideRegister v (Pmevcntr m) w x =
-    cond (not (v .settings .features .pmuv3) || leb (v .settings .features .n) m) (Says Answer.Undef)
-    (unlessStopped w (pmevcntrStop v (isRead w) m) (pmevcntrAccess v m w x))
-decideRegister v Pmswinc w x =
-    cond (not (v .settings .features .pmuv3) || isRead w) (Says Answer.Undef)
-    (unlessStopped w (pmswincStop v) (pmswincAccess w x))
-decideRegister v Pmicntr w x =
-    cond (not (v .settings .features .icntr)) (Says Answer.Undef)
-    (unlessStopped w (pmicntrStop v (isRead w)) (pmicntrAccess v w x))
-decideRegister v Other w x = Says Answer.Other
+decideRegister v r w x =
+    cond (undefinedAtOnce v r w) (Says Answer.Undef) (unlessStopped w (stopOf v r w) (permitted v r w x))
 
 -- "before all else, every access .. tests the record, lowest number first"
 abbrev pub unlessRefused : Verdict → Decision → Decision

@@ -1,0 +1,84 @@
+-- 01, "Two machines under one list": the claim of demand 3, about whole lists of accesses and about the very step of
+-- specs/Step.antt. Its proof is proofs/Isolation.antt; nothing here depends on it.
+use Prim.Native.Nat.{ℕ, _≤_}
+use mathlib.Core.Bool.{Bool, true, false, not, _&&_}
+use mathlib.Core.List.{List, [], _∷_}
+use mathlib.Core.Path.{_≡_}
+use lib.Dec.{leb}
+use lib.ListN.{getD, length}
+use Rattle.machine.specs.declared.Machine.{Machine}
+use Rattle.machine.specs.declared.Settings.{Settings}
+use Rattle.machine.specs.declared.Verdict.the-variants.{Consistent}
+use Rattle.machine.specs.Machine.{withLevel}
+use Rattle.machine.specs.State.{viewOf, verdict}
+use Rattle.rules.specs.Permitted.{bit}
+use Rattle.rules.specs.Step.{Access, Run, run}
+
+-- "the counters named": which event counters, and whether field 7F
+pub record Named : Type 0 where
+  pub counter : ℕ → Bool
+  pub instructions : Bool
+
+-- "their levels and fields are equal except for the counters named"
+pub record SameExcept (x : Named) (r₁ r₂ : Machine) : Type 0 where
+  pub level : r₁ .level ≡ r₂ .level
+  pub settings : r₁ .settings ≡ r₂ .settings
+  pub events : r₁ .events ≡ r₂ .events
+  pub counters : (m : ℕ) → m ≤ 30 → x .counter m ≡ false → getD (r₁ .counters) m 0 ≡ getD (r₂ .counters) m 0
+  pub instructions : x .instructions ≡ false → r₁ .instructions ≡ r₂ .instructions
+
+-- "each named counter has its value from that machine's start record"
+pub record Kept (x : Named) (start after : Machine) : Type 0 where
+  pub counters : (m : ℕ) → m ≤ 30 → x .counter m ≡ true → getD (after .counters) m 0 ≡ getD (start .counters) m 0
+  pub instructions : x .instructions ≡ true → after .instructions ≡ start .instructions
+
+-- "Both start records meet no state refusal with the level put to 0". A record of the code has 31 event counters by its type
+pub record Start (r : Machine) : Type 0 where
+  pub sized : length (r .counters) ≡ 31
+  pub consistent : verdict (viewOf (withLevel 0 r)) ≡ Consistent
+
+-- every access of the list is from level top or below
+abbrev pub fromLevels : ℕ → List Access → Bool
+fromLevels top [] = true
+fromLevels top (a ∷ rest) = leb (a .level) top && fromLevels top rest
+
+-- "It is equal on both machines at each place in the list. After the list the level and all fields except the named counters
+-- are equal on both, and each named counter has its value from that machine's start record."
+pub record Isolated (x : Named) (accesses : List Access) (r₁ r₂ : Machine) : Type 0 where
+  pub answers : run accesses r₁ .answers ≡ run accesses r₂ .answers
+  pub same : SameExcept x (run accesses r₁ .machine) (run accesses r₂ .machine)
+  pub kept₁ : Kept x r₁ (run accesses r₁ .machine)
+  pub kept₂ : Kept x r₂ (run accesses r₂ .machine)
+
+-- the claim for accesses from level top or below, counters named by the settings, and a condition on the settings: two machines
+-- that differ only in the counters named answer every list alike, and each keeps those counters
+abbrev pub Claim : ℕ → (Settings → Named) → (Settings → Bool) → Type 0
+Claim top named when =
+    (r₁ r₂ : Machine) (accesses : List Access)
+    → Start r₁
+    → Start r₂
+    → when (r₁ .settings) ≡ true
+    → fromLevels top accesses ≡ true
+    → SameExcept (named (r₁ .settings)) r₁ r₂
+    → Isolated (named (r₁ .settings)) accesses r₁ r₂
+
+-- "event counters m with HPMN <= m <= 30"
+abbrev pub fromHpmn : Settings → Named
+fromHpmn s = record { counter = λ m. leb (s .mdcr2 .hpmn) m; instructions = false }
+
+-- "event counters 0 to 30 whose bit in field 32 is 0"
+abbrev pub withoutP : Settings → Named
+withoutP s = record { counter = λ m. not (bit m (s .pmuacr .p)); instructions = false }
+
+-- "field 7F"
+abbrev pub instructionCounter : Settings → Named
+instructionCounter s = record { counter = λ m. false; instructions = true }
+
+-- demand 3, whole
+pub record Demand3 : Type 0 where
+  -- EL2 enabled, accesses from EL0 and EL1
+  pub hpmn : Claim 1 fromHpmn (λ s. s .execution .el2enabled)
+  -- p9 present, UEN 1 and SW 0, accesses from EL0
+  pub pmuacr : Claim 0 withoutP (λ s. s .features .p9 && s .pmuserenr .uen && not (s .pmuserenr .sw))
+  -- F0 0, accesses from EL0
+  pub f0 : Claim 0 instructionCounter (λ s. not (s .pmuacr .f0))
