@@ -22,9 +22,9 @@ use Rattle.rules.proofs.Touches.{touches, touchesInstructions}
 
 -- the record afterwards: counters and instruction counter may be new, the rest is as it was
 rest-stays :
-  (d : Decision) (r : Machine)
-  → apply d r .machine
-  ≡ withCounters (apply d r .machine .counters) (withInstructions (apply d r .machine .instructions) r)
+    (d : Decision) (r : Machine)
+    → apply d r .machine
+    ≡ withCounters (apply d r .machine .counters) (withInstructions (apply d r .machine .instructions) r)
 unfolding apply
 rest-stays (Says a) r = refl
 rest-stays (ReadCounter m t) r = refl
@@ -62,8 +62,8 @@ effect v e (ReadInstructions t) i y = y
 effect v e (WriteInstructions x) i y = y
 
 pub counter-after :
-  (d : Decision) (r : Machine) (i : ℕ) → i < length (r .counters)
-  → getD (apply d r .machine .counters) i 0 ≡ effect (viewOf r) (r .events) d i (getD (r .counters) i 0)
+    (d : Decision) (r : Machine) (i : ℕ) → i < length (r .counters)
+    → getD (apply d r .machine .counters) i 0 ≡ effect (viewOf r) (r .events) d i (getD (r .counters) i 0)
 unfolding apply effect viewOf
 counter-after (Says a) r i h = refl
 counter-after (ReadCounter m t) r i h = refl
@@ -118,15 +118,15 @@ narrow-cond true x y p q = p
 narrow-cond false x y p q = q
 
 narrow-incremented :
-  (v : View) (e : List ℕ) (x : ℕ) → v .settings .features .p5 ≡ false
-  → (i y : ℕ) → leb (2 ^ 32) y ≡ false → leb (2 ^ 32) (incremented v e x i y) ≡ false
+    (v : View) (e : List ℕ) (x : ℕ) → v .settings .features .p5 ≡ false
+    → (i y : ℕ) → leb (2 ^ 32) y ≡ false → leb (2 ^ 32) (incremented v e x i y) ≡ false
 unfolding incremented
 narrow-incremented v e x p i y n = narrow-cond (increments v x i && eqb (getD e i 0) 0) (plusOne (width (v .settings)) y) y (rw p (narrow-mod (y + 1))) n
 
 -- where p5 is missing, no counter becomes wide
 pub narrow-stays :
-  (d : Decision) (r : Machine) → r .settings .features .p5 ≡ false → anyWide (r .counters) ≡ false
-  → anyWide (apply d r .machine .counters) ≡ false
+    (d : Decision) (r : Machine) → r .settings .features .p5 ≡ false → anyWide (r .counters) ≡ false
+    → anyWide (apply d r .machine .counters) ≡ false
 unfolding apply viewOf
 narrow-stays (Says a) r p n = n
 narrow-stays (ReadCounter m t) r p n = n
@@ -134,3 +134,16 @@ narrow-stays (WriteCounter m x) r p n = narrow-set (r .counters) m _ (rw p (narr
 narrow-stays (Increment x) r p n = narrow-mapFrom (incremented (viewOf r) (r .events) x) (narrow-incremented (viewOf r) (r .events) x p) 0 (r .counters) n
 narrow-stays (ReadInstructions t) r p n = n
 narrow-stays (WriteInstructions x) r p n = n
+
+narrow-unless :
+    (p w w′ : Bool) → not p && w ≡ false → (p ≡ false → w ≡ false → w′ ≡ false) → not p && w′ ≡ false
+narrow-unless true w w′ n s = refl
+narrow-unless false w w′ n s = s refl n
+
+-- refusal 15's test stays false
+pub wide-stays : (d : Decision) (r : Machine) → viewOf r .wide ≡ false → viewOf (apply d r .machine) .wide ≡ false
+unfolding viewOf
+wide-stays d r n =
+    rw (settings-stay d r)
+    (narrow-unless (r .settings .features .p5) (anyWide (r .counters)) (anyWide (apply d r .machine .counters)) n
+    (narrow-stays d r))

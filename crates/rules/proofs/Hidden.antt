@@ -7,16 +7,15 @@ use borrow.Author.Tests.{eqb-true}
 use lib.Dec.{leb, eqb}
 use Rattle.answer.specs.declared.Answer.{Answer}
 use Rattle.machine.specs.declared.View.{View}
-use Rattle.machine.specs.State.{verdict}
 use Rattle.rules.specs.declared.Decision.{Decision}
 use Rattle.rules.specs.declared.Decision.the-variants.{Says}
 use Rattle.rules.specs.declared.Register.{Register}
 use Rattle.rules.specs.declared.Register.the-variants.{Pmevcntr, Pmswinc, Pmicntr, Other}
-use Rattle.rules.specs.Word.{isRead, register, written}
+use Rattle.rules.specs.Word.{isRead, written}
 use Rattle.rules.specs.Traps.{atOrAboveHpmn, pmevcntrStop}
 use Rattle.rules.specs.Permitted.{bit, denied, deniedF0, readOnly, readOnlyIr, pmevcntrAccess, pmicntrAccess, increments, ignored}
-use Rattle.rules.specs.Step.{undefinedAtOnce, stopOf, permitted, decideRegister, decide}
-use Rattle.rules.proofs.Touches.{touches, touchesInstructions, through-cond, through-stop, through-refusal, stopped-by-5}
+use Rattle.rules.specs.Step.{undefinedAtOnce, permitted, decideRegister, decide}
+use Rattle.rules.proofs.Touches.{touches, touchesInstructions, through-cond, through-register, through-decide, stopped-by-5}
 
 module _ (v : View) (i : ℕ) where
   pub says : (a : Answer) → touches v i (Says a) ≡ false
@@ -36,12 +35,6 @@ module _ (v : View) (i : ℕ) where
   denied-counter m w x e =
       rw e (through-cond (touches v i) says (isRead w) refl refl)
 
-  -- where the permitted access of the register touches nothing, nor does the decision about it
-  pub via-register : (r : Register) (w x : ℕ) → touches v i (permitted v r w x) ≡ false → touches v i (decideRegister v r w x) ≡ false
-  unfolding decideRegister
-  via-register r w x p =
-      through-cond (touches v i) says (undefinedAtOnce v r w) refl (through-stop (touches v i) says w (stopOf v r w) p)
-
   -- PMICNTR touches no event counter
   icntr-access : (w x : ℕ) → touches v i (pmicntrAccess v w x) ≡ false
   unfolding pmicntrAccess
@@ -52,21 +45,21 @@ module _ (v : View) (i : ℕ) where
 
   -- a decision touches counter i only through PMEVCNTR<i> and PMSWINC
   pub decided :
-    (w x : ℕ)
-    → ((m : ℕ) → m ≡ i → touches v i (decideRegister v (Pmevcntr m) w x) ≡ false)
-    → increments v (written w x) i ≡ false
-    → touches v i (decide v w x) ≡ false
-  unfolding decide
-  decided w x own sw = through-refusal (touches v i) says (verdict v) (go (register w))
+      (w x : ℕ)
+      → ((m : ℕ) → m ≡ i → touches v i (decideRegister v (Pmevcntr m) w x) ≡ false)
+      → increments v (written w x) i ≡ false
+      → touches v i (decide v w x) ≡ false
+  decided w x own sw = through-decide (touches v i) says v w x go
     where
       counter : (m : ℕ) (b : Bool) → eqb m i ≡ b → touches v i (decideRegister v (Pmevcntr m) w x) ≡ false
       counter m true e = own m (eqb-true m i e)
-      counter m false e = via-register (Pmevcntr m) w x (other-counter m w x e)
+      counter m false e = through-register (touches v i) says v (Pmevcntr m) w x (other-counter m w x e)
+
       go : (r : Register) → touches v i (decideRegister v r w x) ≡ false
       go (Pmevcntr m) = counter m (eqb m i) refl
-      go Pmswinc = via-register Pmswinc w x sw
-      go Pmicntr = via-register Pmicntr w x (icntr-access w x)
-      go Other = via-register Other w x refl
+      go Pmswinc = through-register (touches v i) says v Pmswinc w x sw
+      go Pmicntr = through-register (touches v i) says v Pmicntr w x (icntr-access w x)
+      go Other = through-register (touches v i) says v Other w x refl
 
 or-true : (a : Bool) → a || true ≡ true
 or-true true = refl
@@ -97,14 +90,14 @@ module _ (v : View) (i : ℕ) (el2 : v .settings .execution .el2enabled ≡ true
 
 -- from EL0 with p9, UEN 1 and SW 0, no decision touches a counter whose P bit is 0
 module _
-  (v : View) (i : ℕ) (el0 : eqb (v .level) 0 ≡ true) (p9 : v .settings .features .p9 ≡ true)
-  (uen : v .settings .pmuserenr .uen ≡ true) (sw : v .settings .pmuserenr .sw ≡ false)
-  (p : not (bit i (v .settings .pmuacr .p)) ≡ true) where
+    (v : View) (i : ℕ) (el0 : eqb (v .level) 0 ≡ true) (p9 : v .settings .features .p9 ≡ true)
+    (uen : v .settings .pmuserenr .uen ≡ true) (sw : v .settings .pmuserenr .sw ≡ false)
+    (p : not (bit i (v .settings .pmuacr .p)) ≡ true) where
   denies : denied v i ≡ true
   denies = rw (el0, p9, uen, p)
 
   own : (w x m : ℕ) → m ≡ i → touches v i (decideRegister v (Pmevcntr m) w x) ≡ false
-  own w x m q = via-register v i (Pmevcntr m) w x (denied-counter v i m w x (rw q denies))
+  own w x m q = through-register (touches v i) (says v i) v (Pmevcntr m) w x (denied-counter v i m w x (rw q denies))
 
   held-back : ignored v i ≡ true
   held-back = rw (sw, el0, p9, uen, p, or-true)
@@ -128,8 +121,6 @@ module _ (v : View) (el0 : eqb (v .level) 0 ≡ true) (f0 : v .settings .pmuacr 
   register-f0 Other w x = refl
 
   pub f0-hidden : (w x : ℕ) → touchesInstructions (decide v w x) ≡ false
-  unfolding decide decideRegister
   f0-hidden w x =
-      through-refusal touchesInstructions says-none (verdict v)
-      (through-cond touchesInstructions says-none (undefinedAtOnce v (register w) w) refl
-      (through-stop touchesInstructions says-none w (stopOf v (register w) w) (register-f0 (register w) w x)))
+      through-decide touchesInstructions says-none v w x
+      (λ r. through-register touchesInstructions says-none v r w x (register-f0 r w x))

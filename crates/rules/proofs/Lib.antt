@@ -4,3 +4,5 @@ pub mod Touches
 pub mod Places
 pub mod Applied
 pub mod Hidden
+pub mod Alike
+pub mod Isolation

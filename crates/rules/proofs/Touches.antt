@@ -8,11 +8,14 @@ use Rattle.answer.specs.declared.Level.{Level}
 use Rattle.machine.specs.declared.Verdict.{Verdict}
 use Rattle.machine.specs.declared.Verdict.the-variants.{Consistent, Refused}
 use Rattle.machine.specs.declared.View.{View}
+use Rattle.machine.specs.State.{verdict}
 use Rattle.rules.specs.declared.Decision.{Decision}
 use Rattle.rules.specs.declared.Decision.the-variants.{Says, ReadCounter, WriteCounter, Increment, ReadInstructions, WriteInstructions}
+use Rattle.rules.specs.declared.Register.{Register}
 use Rattle.rules.specs.declared.Stop.{Stop}
+use Rattle.rules.specs.Word.{register}
 use Rattle.rules.specs.Permitted.{increments}
-use Rattle.rules.specs.Step.{unlessStopped, unlessRefused}
+use Rattle.rules.specs.Step.{unlessStopped, undefinedAtOnce, stopOf, permitted, decideRegister, unlessRefused, decide}
 use Rattle.rules.specs.Traps.{rule1, rule2, rule3, rule4, rule5, rule6, gateTrap, stopAtEl3, firstOfSix, counterOrder}
 
 -- the decision reads or changes event counter i, under this view
@@ -39,18 +42,31 @@ module _ (f : Decision → Bool) (says : (a : Answer) → f (Says a) ≡ false) 
   through-cond true p q = p
   through-cond false p q = q
 
-  pub through-stop : (w : ℕ) (s : Stop) {d : Decision} → f d ≡ false → f (unlessStopped w s d) ≡ false
+  through-stop : (w : ℕ) (s : Stop) {d : Decision} → f d ≡ false → f (unlessStopped w s d) ≡ false
   through-stop w Stop.Pass p = p
   through-stop w Stop.Undef p = says _
   through-stop w (Stop.Trap l) p = says _
 
-  pub through-refusal : (t : Verdict) {d : Decision} → f d ≡ false → f (unlessRefused t d) ≡ false
+  through-refusal : (t : Verdict) {d : Decision} → f d ≡ false → f (unlessRefused t d) ≡ false
   through-refusal Consistent p = p
   through-refusal (Refused r) p = says _
 
+  -- where the permitted access of the register touches nothing, nor does the decision about it
+  pub through-register :
+      (v : View) (r : Register) (w x : ℕ) → f (permitted v r w x) ≡ false → f (decideRegister v r w x) ≡ false
+  unfolding decideRegister
+  through-register v r w x p =
+      through-cond (undefinedAtOnce v r w) (says _) (through-stop w (stopOf v r w) p)
+
+  -- where the decision about every register touches nothing, nor does the decision
+  pub through-decide :
+      (v : View) (w x : ℕ) → ((r : Register) → f (decideRegister v r w x) ≡ false) → f (decide v w x) ≡ false
+  unfolding decide
+  through-decide v w x p = through-refusal (verdict v) (p (register w))
+
   by-5 :
-    (w : ℕ) (r1 r2 r3 r4 r6 : Bool) (l : Level) (el3 : Stop) (d : Decision)
-    → f (unlessStopped w (firstOfSix r1 r2 r3 r4 true r6 (Stop.Trap l) el3) d) ≡ false
+      (w : ℕ) (r1 r2 r3 r4 r6 : Bool) (l : Level) (el3 : Stop) (d : Decision)
+      → f (unlessStopped w (firstOfSix r1 r2 r3 r4 true r6 (Stop.Trap l) el3) d) ≡ false
   by-5 w true r2 r3 r4 r6 l el3 d = says _
   by-5 w false true r3 r4 r6 l el3 d = says _
   by-5 w false false true r4 r6 l el3 d = says _
@@ -59,16 +75,16 @@ module _ (f : Decision → Bool) (says : (a : Answer) → f (Says a) ≡ false) 
 
   -- where rule 5 applies, nothing is touched: whichever rule is first, the access is stopped
   pub stopped-by-5 :
-    (w : ℕ) (v : View) (shut fine above : Bool) (d : Decision) → rule5 v above ≡ true
-    → f (unlessStopped w (counterOrder v shut fine above) d) ≡ false
+      (w : ℕ) (v : View) (shut fine above : Bool) (d : Decision) → rule5 v above ≡ true
+      → f (unlessStopped w (counterOrder v shut fine above) d) ≡ false
   unfolding counterOrder
   stopped-by-5 w v shut fine above d e =
       subst⁻¹
       (λ (r5 : Bool).
-        f
-        (unlessStopped w
-        (firstOfSix (rule1 v) (rule2 v shut) (rule3 v fine) (rule4 v) r5 (rule6 v) (gateTrap v) (stopAtEl3 v))
-        d)
-        ≡ false)
+      f
+      (unlessStopped w
+      (firstOfSix (rule1 v) (rule2 v shut) (rule3 v fine) (rule4 v) r5 (rule6 v) (gateTrap v) (stopAtEl3 v))
+      d)
+      ≡ false)
       e
       (by-5 w (rule1 v) (rule2 v shut) (rule3 v fine) (rule4 v) (rule6 v) _ (stopAtEl3 v) d)

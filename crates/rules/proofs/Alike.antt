@@ -1,0 +1,108 @@
+-- One decision on two records that are alike but for named counters, which the decision does not touch: the answers are equal,
+-- the records stay alike, and each keeps its named counters.
+use Prim.Native.Nat.{ℕ, _<_, _≤_}
+use mathlib.Core.Bool.{Bool, true, false}
+use mathlib.Core.List.{List}
+use mathlib.Core.Path.{_≡_, refl, sym, _∙_, ap}
+use native.Mathlib.Omega.{arith}
+use borrow.Author.Tests.{eq-eqb, ltb-true, ltb-false}
+use lib.Dec.{eqb, ltb}
+use lib.ListN.{getD, length, List·getD-eq-default}
+use Rattle.answer.specs.declared.Answer.{Answer}
+use Rattle.machine.specs.declared.Machine.{Machine}
+use Rattle.machine.specs.declared.Settings.{Settings}
+use Rattle.machine.specs.declared.View.{View}
+use Rattle.machine.specs.Machine.{withLevel}
+use Rattle.machine.specs.State.{viewOf}
+use Rattle.rules.specs.declared.Decision.{Decision}
+use Rattle.rules.specs.declared.Decision.the-variants.{Says, ReadCounter, WriteCounter, Increment, ReadInstructions, WriteInstructions}
+use Rattle.rules.specs.Isolation.{Named, SameExcept, Kept}
+use Rattle.rules.specs.Step.{apply}
+use Rattle.rules.proofs.Applied.{level-stays, settings-stay, events-stay, length-stays, counter-after, untouched, instructions-after, instructions-untouched, wide-stays, effect, effectInstructions}
+use Rattle.rules.proofs.Touches.{touches, touchesInstructions}
+
+-- a record with 31 counters that refusal 15 does not meet
+pub record Sound (r : Machine) : Type 0 where
+  pub sized : length (r .counters) ≡ 31
+  pub narrow : viewOf r .wide ≡ false
+
+-- two such records, equal but for the counters named
+pub record Alike (x : Named) (r₁ r₂ : Machine) : Type 0 where
+  pub same : SameExcept x r₁ r₂
+  pub sound₁ : Sound r₁
+  pub sound₂ : Sound r₂
+
+-- the decision touches no counter that is named
+pub record Hides (x : Named) (v : View) (d : Decision) : Type 0 where
+  pub counter : (i : ℕ) → x .counter i ≡ true → touches v i d ≡ false
+  pub instructions : x .instructions ≡ true → touchesInstructions d ≡ false
+
+pub sound-stays : (d : Decision) {r : Machine} → Sound r → Sound (apply d r .machine)
+sound-stays d {r} s = record { sized = length-stays d r ∙ s .sized; narrow = wide-stays d r (s .narrow) }
+
+-- the records are seen alike
+pub view-alike : {x : Named} {r₁ r₂ : Machine} → Alike x r₁ r₂ → viewOf r₁ ≡ viewOf r₂
+unfolding viewOf
+view-alike a =
+    λ i.
+    record {
+      level = a .same .level i;
+      settings = a .same .settings i;
+      wide = (a .sound₁ .narrow ∙ sym (a .sound₂ .narrow)) i;
+    }
+
+-- a counter that is not named, also past the 31
+not-named : {x : Named} {r₁ r₂ : Machine} → Alike x r₁ r₂ → (i : ℕ) → x .counter i ≡ false → getD (r₁ .counters) i 0 ≡ getD (r₂ .counters) i 0
+not-named {x} {r₁} {r₂} a i n = go (ltb i 31) refl
+  where
+    go : (b : Bool) → ltb i 31 ≡ b → getD (r₁ .counters) i 0 ≡ getD (r₂ .counters) i 0
+    go true e = a .same .counters i (omega (arith, ltb-true i 31 e)) n
+    go false e =
+        List·getD-eq-default (r₁ .counters) 0 (omega (arith, ltb-false i 31 e, a .sound₁ .sized))
+        ∙ sym (List·getD-eq-default (r₂ .counters) 0 (omega (arith, ltb-false i 31 e, a .sound₂ .sized)))
+
+-- what a decision reads is not named
+unnamed : (b : Bool) {c : Bool} → (b ≡ true → c ≡ false) → c ≡ true → b ≡ false
+unnamed true h e = sym e ∙ h refl
+unnamed false h e = refl
+
+module _ (x : Named) (r₁ r₂ : Machine) (a : Alike x r₁ r₂) where
+  pub answers-alike : (d : Decision) → Hides x (viewOf r₁) d → apply d r₁ .answer ≡ apply d r₂ .answer
+  unfolding apply
+  answers-alike (Says b) h = refl
+  answers-alike (ReadCounter m t) h =
+      ap (λ y. Answer.Mrs y t) (not-named a m (unnamed (x .counter m) (h .counter m) (eq-eqb m m refl)))
+  answers-alike (WriteCounter m y) h = refl
+  answers-alike (Increment y) h = refl
+  answers-alike (ReadInstructions t) h =
+      ap (λ y. Answer.Mrs y t) (a .same .instructions (unnamed (x .instructions) (h .instructions) refl))
+  answers-alike (WriteInstructions y) h = refl
+
+  pub stays-alike : (d : Decision) → Alike x (apply d r₁ .machine) (apply d r₂ .machine)
+  stays-alike d =
+      record {
+        same =
+            record {
+              level = level-stays d r₁ ∙ a .same .level ∙ sym (level-stays d r₂);
+              settings = settings-stay d r₁ ∙ a .same .settings ∙ sym (settings-stay d r₂);
+              events = events-stay d r₁ ∙ a .same .events ∙ sym (events-stay d r₂);
+              counters =
+                  λ m le n.
+                  counter-after d r₁ m (omega (arith, a .sound₁ .sized))
+                  ∙ (λ i. effect (view-alike a i) (a .same .events i) d m (a .same .counters m le n i))
+                  ∙ sym (counter-after d r₂ m (omega (arith, a .sound₂ .sized)));
+              instructions =
+                  λ n. instructions-after d r₁ ∙ ap (effectInstructions d) (a .same .instructions n) ∙ sym (instructions-after d r₂);
+            };
+        sound₁ = sound-stays d (a .sound₁);
+        sound₂ = sound-stays d (a .sound₂);
+      }
+
+-- a named counter is kept
+pub kept-by : (x : Named) (d : Decision) (r : Machine) → Sound r → Hides x (viewOf r) d → Kept x r (apply d r .machine)
+kept-by x d r s h =
+    record {
+      counters =
+          λ m le n. counter-after d r m (omega (arith, s .sized)) ∙ untouched (viewOf r) (r .events) d m _ (h .counter m n);
+      instructions = λ n. instructions-after d r ∙ instructions-untouched d _ (h .instructions n);
+    }

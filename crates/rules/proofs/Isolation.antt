@@ -1,0 +1,180 @@
+-- Demand 3: two machines that differ only in counters hidden from EL0 or EL1 answer every list of accesses alike and keep those
+-- counters. One induction over the list, over any set of named counters that no decision touches; then the three claims.
+use Prim.Native.Nat.{ℕ, _≤_}
+use mathlib.Core.Bool.{Bool, true, false, not, _&&_}
+use mathlib.Core.List.{List, [], _∷_}
+use mathlib.Core.Path.{_≡_, refl, sym, _∙_, ap, ap₂, subst, subst⁻¹}
+use native.Mathlib.Omega.{arith}
+use borrow.Author.Tests.{eq-eqb, leb-true, not-true}
+use lib.Dec.{eqb, leb}
+use Rattle.answer.specs.declared.Answer.{Answer}
+use Rattle.machine.specs.declared.Machine.{Machine}
+use Rattle.machine.specs.declared.Outcome.{Outcome}
+use Rattle.machine.specs.declared.Settings.{Settings}
+use Rattle.machine.specs.declared.Verdict.the-variants.{Consistent}
+use Rattle.machine.specs.declared.View.{View}
+use Rattle.machine.specs.Machine.{withLevel}
+use Rattle.machine.specs.State.{viewOf, tooLarge, levelUnavailable, el2Unimplemented, hpmnAboveN, hpmnZero, counterTooWide, hostAtEl1, featureMissing, firstRefusal, verdict}
+use Rattle.machine.proofs.Below.{and-left, and-right}
+use Rattle.rules.specs.declared.Decision.{Decision}
+use Rattle.rules.specs.Isolation.{Named, SameExcept, Kept, Start, fromLevels, Isolated, Claim, fromHpmn, withoutP, instructionCounter, Demand3}
+use Rattle.rules.specs.Step.{Access, decide, apply, step, access, run}
+use Rattle.rules.proofs.Alike.{Sound, Alike, Hides, view-alike, answers-alike, stays-alike, kept-by}
+use Rattle.rules.proofs.Applied.{settings-stay}
+use Rattle.rules.proofs.Hidden.{hpmn-hidden, pmuacr-hidden, f0-hidden}
+
+-- a consistent record does not meet refusal 15
+not-15 :
+    (r10 r11 r12 r13 r14 r15 r16 r17 : Bool) → firstRefusal r10 r11 r12 r13 r14 r15 r16 r17 ≡ Consistent → r15 ≡ false
+not-15 true r11 r12 r13 r14 r15 r16 r17 e = cc
+not-15 false true r12 r13 r14 r15 r16 r17 e = cc
+not-15 false false true r13 r14 r15 r16 r17 e = cc
+not-15 false false false true r14 r15 r16 r17 e = cc
+not-15 false false false false true r15 r16 r17 e = cc
+not-15 false false false false false true r16 r17 e = cc
+not-15 false false false false false false r16 r17 e = refl
+
+not-wide : (v : View) → verdict v ≡ Consistent → v .wide ≡ false
+unfolding verdict
+not-wide v e =
+    not-15 (tooLarge v) (levelUnavailable v) (el2Unimplemented v) (hpmnAboveN v) (hpmnZero v) (counterTooWide v) (hostAtEl1 v)
+    (featureMissing v)
+    e
+
+start-sound : {r : Machine} → Start r → Sound r
+unfolding viewOf
+start-sound {r} s = record { sized = s .sized; narrow = not-wide (viewOf (withLevel 0 r)) (s .consistent) }
+
+-- the level put to an access's own
+at-level : (l : ℕ) {x : Named} {r₁ r₂ : Machine} → Alike x r₁ r₂ → Alike x (withLevel l r₁) (withLevel l r₂)
+unfolding viewOf
+at-level l a =
+    record {
+      same =
+          record {
+            level = refl;
+            settings = a .same .settings;
+            events = a .same .events;
+            counters = a .same .counters;
+            instructions = a .same .instructions;
+          };
+      sound₁ = record { sized = a .sound₁ .sized; narrow = a .sound₁ .narrow };
+      sound₂ = record { sized = a .sound₂ .sized; narrow = a .sound₂ .narrow };
+    }
+
+-- kept by an access, then by the rest of the list
+kept-on : (l : ℕ) {x : Named} {r s t : Machine} → Kept x (withLevel l r) s → Kept x s t → Kept x r t
+kept-on l j k =
+    record {
+      counters = λ m le n. k .counters m le n ∙ j .counters m le n;
+      instructions = λ n. k .instructions n ∙ j .instructions n;
+    }
+
+-- what one access does to two records that are alike
+record Once (x : Named) (r₁ r₂ : Machine) (o₁ o₂ : Outcome) : Type 0 where
+  answer : o₁ .answer ≡ o₂ .answer
+  alike : Alike x (o₁ .machine) (o₂ .machine)
+  kept₁ : Kept x r₁ (o₁ .machine)
+  kept₂ : Kept x r₂ (o₂ .machine)
+
+once-decided :
+    {x : Named} {r₁ r₂ : Machine} → Alike x r₁ r₂ → (d : Decision) → Hides x (viewOf r₁) d
+    → Once x r₁ r₂ (apply d r₁) (apply d r₂)
+once-decided {x} {r₁} {r₂} a d h =
+    record {
+      answer = answers-alike x r₁ r₂ a d h;
+      alike = stays-alike x r₁ r₂ a d;
+      kept₁ = kept-by x d r₁ (a .sound₁) h;
+      kept₂ = kept-by x d r₂ (a .sound₂) (subst (λ (v : View). Hides x v d) (view-alike a) h);
+    }
+
+once :
+    {x : Named} {r₁ r₂ : Machine} → Alike x r₁ r₂ → (w y : ℕ) → Hides x (viewOf r₁) (decide (viewOf r₁) w y)
+    → Once x r₁ r₂ (step w y r₁) (step w y r₂)
+unfolding step
+once {x} {r₁} {r₂} a w y h =
+    subst (λ (v : View). Once x r₁ r₂ (apply (decide (viewOf r₁) w y) r₁) (apply (decide v w y) r₂)) (view-alike a)
+    (once-decided a (decide (viewOf r₁) w y) h)
+
+module _ (x : Named) (s : Settings) (top : ℕ)
+    (hides : (v : View) → v .settings ≡ s → leb (v .level) top ≡ true → (w y : ℕ) → Hides x v (decide v w y)) where
+  isolated :
+      (accesses : List Access) (r₁ r₂ : Machine) → fromLevels top accesses ≡ true → r₁ .settings ≡ s → Alike x r₁ r₂
+      → Isolated x accesses r₁ r₂
+  unfolding run access step viewOf
+  isolated [] r₁ r₂ l e a =
+      record {
+        answers = refl;
+        same = a .same;
+        kept₁ = record { counters = λ m le n. refl; instructions = λ n. refl };
+        kept₂ = record { counters = λ m le n. refl; instructions = λ n. refl };
+      }
+  isolated (b ∷ rest) r₁ r₂ l e a =
+      let low : leb (b .level) top ≡ true = and-left (leb (b .level) top) (fromLevels top rest) l in
+      let o : Once x (withLevel (b .level) r₁) (withLevel (b .level) r₂) (access b r₁) (access b r₂) =
+      once (at-level (b .level) a) (b .word) (b .operand) (hides (viewOf (withLevel (b .level) r₁)) e low (b .word) (b .operand)) in
+      let i : Isolated x rest (access b r₁ .machine) (access b r₂ .machine) =
+      isolated rest (access b r₁ .machine) (access b r₂ .machine) (and-right (leb (b .level) top) (fromLevels top rest) l)
+      (settings-stay (decide (viewOf (withLevel (b .level) r₁)) (b .word) (b .operand)) (withLevel (b .level) r₁) ∙ e)
+      (o .alike) in
+      record {
+        answers = ap₂ _∷_ (o .answer) (i .answers);
+        same = i .same;
+        kept₁ = kept-on (b .level) (o .kept₁) (i .kept₁);
+        kept₂ = kept-on (b .level) (o .kept₂) (i .kept₂);
+      }
+
+-- a claim holds where no decision under such settings touches a counter named
+claim :
+    (top : ℕ) (named : Settings → Named) (when : Settings → Bool)
+    → ((v : View) → when (v .settings) ≡ true → leb (v .level) top ≡ true → (w y : ℕ) → Hides (named (v .settings)) v (decide v w y))
+    → Claim top named when
+claim top named when hides r₁ r₂ accesses s₁ s₂ c l same =
+    isolated (named (r₁ .settings)) (r₁ .settings) top
+    (λ v e low w y.
+    subst (λ (s : Settings). Hides (named s) v (decide v w y)) e
+    (hides v (subst⁻¹ (λ (s : Settings). when s ≡ true) e c) low w y))
+    accesses r₁ r₂ l refl
+    (record { same = same; sound₁ = start-sound s₁; sound₂ = start-sound s₂ })
+
+-- level 0 or below is level 0
+el0 : (n : ℕ) → leb n 0 ≡ true → eqb n 0 ≡ true
+el0 n h = eq-eqb n 0 (omega (arith, leb-true n 0 h))
+
+all-three : (a b c : Bool) → a && b && c ≡ true → (a ≡ true) × (b ≡ true) × (c ≡ true)
+all-three a b c e =
+    (and-left a b (and-left (a && b) c e), and-right a b (and-left (a && b) c e), and-right (a && b) c e)
+
+hpmn-hides :
+    (v : View) → v .settings .execution .el2enabled ≡ true → leb (v .level) 1 ≡ true
+    → (w y : ℕ)
+    → Hides (fromHpmn (v .settings)) v (decide v w y)
+hpmn-hides v e low w y = record { counter = λ i n. hpmn-hidden v i e low n w y; instructions = λ n. cc }
+
+pmuacr-hides :
+    (v : View) → v .settings .features .p9 && v .settings .pmuserenr .uen && not (v .settings .pmuserenr .sw) ≡ true
+    → leb (v .level) 0 ≡ true
+    → (w y : ℕ)
+    → Hides (withoutP (v .settings)) v (decide v w y)
+pmuacr-hides v e low w y =
+    let t = all-three (v .settings .features .p9) (v .settings .pmuserenr .uen) (not (v .settings .pmuserenr .sw)) e in
+    record {
+      counter = λ i n. pmuacr-hidden v i (el0 (v .level) low) (t .0) (t .1) (not-true _ (t .2)) n w y;
+      instructions = λ n. cc;
+    }
+
+f0-hides :
+    (v : View) → not (v .settings .pmuacr .f0) ≡ true → leb (v .level) 0 ≡ true
+    → (w y : ℕ)
+    → Hides (instructionCounter (v .settings)) v (decide v w y)
+f0-hides v e low w y =
+    record { counter = λ i n. cc; instructions = λ n. f0-hidden v (el0 (v .level) low) (not-true _ e) w y }
+
+-- demand 3
+pub demand3 : Demand3
+demand3 =
+    record {
+      hpmn = claim 1 fromHpmn (λ s. s .execution .el2enabled) hpmn-hides;
+      pmuacr = claim 0 withoutP (λ s. s .features .p9 && s .pmuserenr .uen && not (s .pmuserenr .sw)) pmuacr-hides;
+      f0 = claim 0 instructionCounter (λ s. not (s .pmuacr .f0)) f0-hides;
+    }
