@@ -1,0 +1,36 @@
+-- Text as lists of bytes: a fixed word, a number in decimal, and the low bits of a number in uppercase hexadecimal.
+use Prim.Native.Nat.{ℕ, zero, suc, _+_, _/_, _%_, _^_}
+use Prim.Native.Char.{code}
+use Prim.Native.String.{String, [] as empty, _∷_ as _then_}
+use mathlib.Core.Bool.{true, false, cond}
+use mathlib.Core.List.{List, [], _∷_, _++_}
+use lib.Dec.{ltb}
+
+-- the bytes of an ASCII text
+abbrev pub bytes : String → List ℕ
+bytes empty = []
+bytes (c then s) = code c ∷ bytes s
+
+-- the digit of a number below 10
+abbrev pub decimalDigit : ℕ → ℕ
+decimalDigit d = 48 + d
+
+-- the last k digits of n in decimal, without leading zeros
+abbrev pub decimalDigits : ℕ → ℕ → List ℕ
+decimalDigits zero n = []
+decimalDigits (suc k) n =
+    let front = decimalDigits k (n / 10) in
+    cond (ltb n 10) (decimalDigit n ∷ []) (front ++ (decimalDigit (n % 10) ∷ []))
+
+-- n in decimal: 20 digits are enough for any 64-bit number
+unfoldable pub decimal : ℕ → List ℕ
+decimal n = decimalDigits 20 n
+
+-- the uppercase digit of a number below 16
+abbrev pub hexDigit : ℕ → ℕ
+hexDigit d = cond (ltb d 10) (48 + d) (55 + d)
+
+-- k uppercase hexadecimal digits of x, the highest first
+unfoldable pub hex : ℕ → ℕ → List ℕ
+hex zero x = []
+hex (suc k) x = hexDigit (x / 16 ^ k % 16) ∷ hex k x

@@ -1,0 +1,2 @@
+-- What is proved of sessions.
+pub mod Worked

@@ -1,0 +1,72 @@
+-- 01, "Sessions": "Command bytes are hexadecimal, operands little-endian".
+use Prim.Native.Nat.{ℕ, _+_, _*_}
+use mathlib.Core.Bool.{Bool, true, false, cond}
+use mathlib.Core.List.{List, [], _∷_}
+use lib.Dec.{ltb, eqb}
+use lib.ListN.{length, getD, take, drop}
+use Rattle.answer.specs.declared.Refusal.the-variants.{UnknownCommand, Truncated}
+use Rattle.transcript.specs.declared.Command.{Command}
+
+-- the number that little-endian bytes hold
+abbrev pub little : List ℕ → ℕ
+little [] = 0
+little (b ∷ rest) = b + 256 * little rest
+
+-- the number in count bytes from a place
+abbrev pub operand : List ℕ → ℕ → ℕ → ℕ
+operand s at count = little (take count (drop at s))
+
+-- the bytes of the operands behind each command byte: "00 end; 01 set: field 1 byte, value 8; 02 level: 1; 03 access: word 4,
+-- operand 8; 04 external read: offset 2; 05 external write: offset 2, value 8; 06 tick: prohibited flag 1"
+abbrev pub operandBytes : ℕ → ℕ
+operandBytes c =
+    cond (eqb c 0x01) 9
+    (cond (eqb c 0x02) 1
+    (cond (eqb c 0x03) 12
+    (cond (eqb c 0x04) 2
+    (cond (eqb c 0x05) 10
+    (cond (eqb c 0x06) 1 0)))))
+
+-- refusal 1: "the command byte is unknown"
+abbrev pub isUnknown : ℕ → Bool
+isUnknown c = ltb 0x06 c
+
+-- the command with byte c and the operands that follow it
+abbrev pub commandWith : ℕ → List ℕ → Command
+commandWith c s =
+    cond (eqb c 0x01) (Command.Set (operand s 0 1) (operand s 1 8))
+    (cond (eqb c 0x02) (Command.Level (operand s 0 1))
+    (cond (eqb c 0x03) (Command.Access (operand s 0 4) (operand s 4 8))
+    (cond (eqb c 0x04) (Command.Read (operand s 0 2))
+    (cond (eqb c 0x05) (Command.Write (operand s 0 2) (operand s 2 8))
+    (cond (eqb c 0x06) (Command.Tick (operand s 0 1)) Command.End)))))
+
+-- the command that the bytes begin with: refusal 1, then 2, "the session ends inside a command, or before an end command"
+unfoldable pub commandOf : List ℕ → Command
+commandOf [] = Command.Bad Truncated
+commandOf (c ∷ rest) =
+    cond (isUnknown c) (Command.Bad UnknownCommand)
+    (cond (ltb (length rest) (operandBytes c)) (Command.Bad Truncated)
+    (commandWith c rest))
+
+-- how many bytes a command takes; past a bad one nothing is read
+abbrev pub sizeOf : Command → ℕ
+sizeOf Command.End = 1
+sizeOf (Command.Set f v) = 10
+sizeOf (Command.Level l) = 2
+sizeOf (Command.Access w x) = 13
+sizeOf (Command.Read o) = 3
+sizeOf (Command.Write o x) = 11
+sizeOf (Command.Tick p) = 2
+sizeOf (Command.Bad r) = 0
+
+-- "After 1, 2 or 6 reading ends. After 3, 4, 5 it goes on." "Bytes after the end command are ignored."
+abbrev pub isLast : Command → Bool
+isLast Command.End = true
+isLast (Command.Set f v) = false
+isLast (Command.Level l) = false
+isLast (Command.Access w x) = false
+isLast (Command.Read o) = false
+isLast (Command.Write o x) = false
+isLast (Command.Tick p) = false
+isLast (Command.Bad r) = true
