@@ -1,13 +1,8 @@
-// The machine record of document 01: one struct for each register or group of fields. specs/Store.antt is the table of
-// field numbers, specs/Fields.antt has the largest value of each.
+// The machine record of document 01: one struct for each register or group of fields. The crate `fields` has the number and
+// the largest value of each field.
 pub mod fresh; // fresh.rt: the fresh record
-pub mod fields; // fields.rt: the largest value of a field, by its number
-mod store; // store.rt: the parts of the record with one field stored, by its number
-pub mod set; // set.rt: the set and level commands
-pub mod state; // state.rt: what a decision looks at, and the state refusals
 
 use answer::Answer;
-use answer::Refusal;
 
 // What the processor implements: FEAT_PMUv3, PMUv3p5, PMUv3p9, PMUv3_ICNTR, FGT, FGT2, HPMN0, PMUv3_EXT32 and
 // PMUv3_EXT64, EL2 and EL3, the choice "EL3 trap priority when SDD == '1'", and N, the number of event counters.
@@ -125,17 +120,4 @@ pub struct Machine {
 pub struct Outcome {
     pub answer: Answer,
     pub machine: Machine,
-}
-
-// What a decision about an access may look at: of the counters, only refusal 15's test, `wide`.
-pub struct View {
-    pub level: u8,
-    pub settings: Settings,
-    pub wide: bool,
-}
-
-// The state test: the record is consistent, or refused with the lowest number that applies.
-pub enum Verdict {
-    Consistent,
-    Refused(Refusal),
 }

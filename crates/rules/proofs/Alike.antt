@@ -11,9 +11,9 @@ use lib.ListN.{getD, length, List·getD-eq-default}
 use Rattle.answer.specs.declared.Answer.{Answer}
 use Rattle.machine.specs.declared.Machine.{Machine}
 use Rattle.machine.specs.declared.Settings.{Settings}
-use Rattle.machine.specs.declared.View.{View}
+use Rattle.state.specs.declared.View.{View}
 use Rattle.machine.specs.Machine.{withLevel}
-use Rattle.machine.specs.State.{viewOf}
+use Rattle.state.specs.State.{viewOf}
 use Rattle.rules.specs.declared.Decision.{Decision}
 use Rattle.rules.specs.declared.Decision.the-variants.{Says, ReadCounter, WriteCounter, Increment, ReadInstructions, WriteInstructions}
 use Rattle.rules.specs.Isolation.{Named, SameExcept, Kept}

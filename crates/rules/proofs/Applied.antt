@@ -10,9 +10,9 @@ use lib.Dec.{leb, eqb, lit<}
 use lib.ListN.{getD, length, length-set}
 use Rattle.machine.specs.declared.Machine.{Machine}
 use Rattle.machine.specs.declared.Settings.{Settings}
-use Rattle.machine.specs.declared.View.{View}
+use Rattle.state.specs.declared.View.{View}
 use Rattle.machine.specs.Machine.{withCounters, withInstructions}
-use Rattle.machine.specs.State.{anyWide, viewOf}
+use Rattle.state.specs.State.{anyWide, viewOf}
 use Rattle.rules.specs.declared.Decision.{Decision}
 use Rattle.rules.specs.declared.Decision.the-variants.{Says, ReadCounter, WriteCounter, Increment, ReadInstructions, WriteInstructions}
 use Rattle.rules.specs.Permitted.{increments}

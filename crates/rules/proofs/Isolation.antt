@@ -11,11 +11,11 @@ use Rattle.answer.specs.declared.Answer.{Answer}
 use Rattle.machine.specs.declared.Machine.{Machine}
 use Rattle.machine.specs.declared.Outcome.{Outcome}
 use Rattle.machine.specs.declared.Settings.{Settings}
-use Rattle.machine.specs.declared.Verdict.the-variants.{Consistent}
-use Rattle.machine.specs.declared.View.{View}
+use Rattle.state.specs.declared.Verdict.the-variants.{Consistent}
+use Rattle.state.specs.declared.View.{View}
 use Rattle.machine.specs.Machine.{withLevel}
-use Rattle.machine.specs.State.{viewOf, tooLarge, levelUnavailable, el2Unimplemented, hpmnAboveN, hpmnZero, counterTooWide, hostAtEl1, featureMissing, firstRefusal, verdict}
-use Rattle.machine.proofs.Below.{and-left, and-right}
+use Rattle.state.specs.State.{viewOf, tooLarge, levelUnavailable, el2Unimplemented, hpmnAboveN, hpmnZero, counterTooWide, hostAtEl1, featureMissing, firstRefusal, verdictOf}
+use Rattle.fields.proofs.Below.{and-left, and-right}
 use Rattle.rules.specs.declared.Decision.{Decision}
 use Rattle.rules.specs.Isolation.{Named, SameExcept, Kept, Start, fromLevels, Isolated, Claim, fromHpmn, withoutP, instructionCounter, Demand3}
 use Rattle.rules.specs.Step.{Access, decide, apply, step, access, run}
@@ -34,8 +34,8 @@ not-15 false false false false true r15 r16 r17 e = cc
 not-15 false false false false false true r16 r17 e = cc
 not-15 false false false false false false r16 r17 e = refl
 
-not-wide : (v : View) → verdict v ≡ Consistent → v .wide ≡ false
-unfolding verdict
+not-wide : (v : View) → verdictOf v ≡ Consistent → v .wide ≡ false
+unfolding verdictOf
 not-wide v e =
     not-15 (tooLarge v) (levelUnavailable v) (el2Unimplemented v) (hpmnAboveN v) (hpmnZero v) (counterTooWide v) (hostAtEl1 v)
     (featureMissing v)

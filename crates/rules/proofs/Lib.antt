@@ -1,5 +1,6 @@
 -- What is proved of the rules.
 pub mod Worked
+pub mod Unchanged
 pub mod Touches
 pub mod Places
 pub mod Applied

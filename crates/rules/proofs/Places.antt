@@ -9,7 +9,7 @@ use borrow.Author.Tests.{eqb-true, eqb-false}
 use lib.Dec.{leb, eqb}
 use lib.ListN.{getD, set, length}
 use lib.Seq.{getD-set-same, getD-set-other}
-use Rattle.machine.specs.State.{anyWide}
+use Rattle.state.specs.State.{anyWide}
 use Rattle.rules.specs.Step.{mapFrom}
 
 -- place i after a store at place m

@@ -5,10 +5,10 @@ use mathlib.Core.Path.{_≡_, refl, subst⁻¹}
 use lib.Dec.{eqb}
 use Rattle.answer.specs.declared.Answer.{Answer}
 use Rattle.answer.specs.declared.Level.{Level}
-use Rattle.machine.specs.declared.Verdict.{Verdict}
-use Rattle.machine.specs.declared.Verdict.the-variants.{Consistent, Refused}
-use Rattle.machine.specs.declared.View.{View}
-use Rattle.machine.specs.State.{verdict}
+use Rattle.state.specs.declared.Verdict.{Verdict}
+use Rattle.state.specs.declared.Verdict.the-variants.{Consistent, Refused}
+use Rattle.state.specs.declared.View.{View}
+use Rattle.state.specs.State.{verdictOf}
 use Rattle.rules.specs.declared.Decision.{Decision}
 use Rattle.rules.specs.declared.Decision.the-variants.{Says, ReadCounter, WriteCounter, Increment, ReadInstructions, WriteInstructions}
 use Rattle.rules.specs.declared.Register.{Register}
@@ -62,7 +62,7 @@ module _ (f : Decision → Bool) (says : (a : Answer) → f (Says a) ≡ false) 
   pub through-decide :
       (v : View) (w x : ℕ) → ((r : Register) → f (decideRegister v r w x) ≡ false) → f (decide v w x) ≡ false
   unfolding decide
-  through-decide v w x p = through-refusal (verdict v) (p (register w))
+  through-decide v w x p = through-refusal (verdictOf v) (p (register w))
 
   by-5 :
       (w : ℕ) (r1 r2 r3 r4 r6 : Bool) (l : Level) (el3 : Stop) (d : Decision)

@@ -9,7 +9,7 @@ use Rattle.answer.specs.declared.Refusal.the-variants.{HpmnAboveN}
 use Rattle.machine.specs.declared.Machine.{Machine}
 use Rattle.machine.specs.declared.Outcome.{Outcome}
 use Rattle.machine.specs.Machine.{fresh, withLevel}
-use Rattle.machine.specs.Set.{set}
+use Rattle.fields.specs.Set.{set}
 use Rattle.rules.specs.Step.{step, Run}
 use Rattle.rules.specs.External.{externalRead, externalWrite}
 
@@ -108,7 +108,7 @@ worked =
     ∷ record { given = (0x23, 1) ∷ (0x21, 1) ∷ (0x20, 0) ∷ []; level = 0; moves = swinc 8 ∷ []; answers = Answer.Ok ∷ []; after = (0x63, 1) ∷ [] }
     -- P10
     ∷ record { given = (0x27, 6) ∷ (0x64, 7) ∷ []; level = 1; moves = access 0xD53BE882 0 ∷ []; answers = Answer.Mrs 7 2 ∷ []; after = [] }
-    ∷ record { given = (0x27, 7) ∷ []; level = 1; moves = access 0xD53BE882 0 ∷ []; answers = Answer.Refused HpmnAboveN ∷ []; after = [] }
+    ∷ record { given = (0x27, 7) ∷ (0x7F, 5) ∷ []; level = 1; moves = access 0xD53BE882 0 ∷ []; answers = Answer.Refused HpmnAboveN ∷ []; after = [] }
     -- P11
     ∷ record { given = []; level = 0; moves = write 0xC00 0x1FFFFFFFF ∷ read 0xC00 ∷ []; answers = Answer.Ok ∷ Answer.Value 0x8000003F ∷ []; after = (0x34, 0x8000003F) ∷ [] }
     ∷ record { given = (0x03, 1) ∷ []; level = 0; moves = write 0xC00 0x1FFFFFFFF ∷ read 0xC00 ∷ []; answers = Answer.Ok ∷ Answer.Value 0x18000003F ∷ []; after = (0x34, 0x18000003F) ∷ [] }

@@ -6,17 +6,13 @@ use Rattle.answer.specs.declared.Answer.{Answer}
 use Rattle.machine.specs.declared.Machine.{Machine}
 use Rattle.machine.specs.declared.Outcome.{Outcome}
 use Rattle.machine.specs.declared.Settings.{Settings}
-use Rattle.machine.specs.declared.Verdict.{Verdict}
-use Rattle.machine.specs.declared.Verdict.the-variants.{Consistent, Refused}
+use Rattle.state.specs.declared.Verdict.{Verdict}
+use Rattle.state.specs.declared.Verdict.the-variants.{Consistent, Refused}
 use Rattle.machine.specs.Machine.{withCnten, withInstructions}
-use Rattle.machine.specs.Set.{refused, done}
-use Rattle.machine.specs.State.{viewOf, verdict}
+use Rattle.machine.specs.Outcome.{says, refused, done}
+use Rattle.state.specs.State.{viewOf, verdictOf}
 use Rattle.rules.specs.Permitted.{bit}
 use Rattle.rules.specs.Step.{plusOne}
-
--- an answer that leaves the record as it is
-abbrev pub says : Answer → Machine → Outcome
-says a r = record { answer = a; machine = r }
 
 -- "before all else, every .. external access and tick tests the record, lowest number first"
 abbrev pub unlessRefusedBy : Verdict → Machine → Outcome → Outcome
@@ -61,7 +57,7 @@ enablesWritten s x = fromBits 33 (λ m. bit m (s .cnten) || (shown s m && bit m 
 -- an external read. "Other offsets answer `other`, tested before all of this."
 unfoldable pub externalRead : ℕ → Machine → Outcome
 externalRead offset r =
-    unlessRefusedBy (verdict (viewOf r)) r
+    unlessRefusedBy (verdictOf (viewOf r)) r
     (cond (not (eqb offset pmcntenset)) (says Answer.Other r)
     (cond (not (present (r .settings))) (says (Answer.Value 0) r)
     (cond (unreachable (r .settings)) (says Answer.Error r)
@@ -70,7 +66,7 @@ externalRead offset r =
 -- an external write. "Software lock: writes are ignored."
 unfoldable pub externalWrite : ℕ → ℕ → Machine → Outcome
 externalWrite offset x r =
-    unlessRefusedBy (verdict (viewOf r)) r
+    unlessRefusedBy (verdictOf (viewOf r)) r
     (cond (not (eqb offset pmcntenset)) (says Answer.Other r)
     (cond (not (present (r .settings))) (done r)
     (cond (unreachable (r .settings)) (says Answer.Error r)
@@ -81,7 +77,7 @@ externalWrite offset x r =
 -- 2^64."
 unfoldable pub tick : Bool → Machine → Outcome
 tick prohibited r =
-    unlessRefusedBy (verdict (viewOf r)) r
+    unlessRefusedBy (verdictOf (viewOf r)) r
     (cond (r .settings .features .icntr && bit 32 (r .settings .cnten) && not prohibited)
     (done (withInstructions (plusOne 64 (r .instructions)) r))
     (done r))

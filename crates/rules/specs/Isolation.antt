@@ -8,9 +8,9 @@ use lib.Dec.{leb}
 use lib.ListN.{getD, length}
 use Rattle.machine.specs.declared.Machine.{Machine}
 use Rattle.machine.specs.declared.Settings.{Settings}
-use Rattle.machine.specs.declared.Verdict.the-variants.{Consistent}
+use Rattle.state.specs.declared.Verdict.the-variants.{Consistent}
 use Rattle.machine.specs.Machine.{withLevel}
-use Rattle.machine.specs.State.{viewOf, verdict}
+use Rattle.state.specs.State.{viewOf, verdictOf}
 use Rattle.rules.specs.Permitted.{bit}
 use Rattle.rules.specs.Step.{Access, Run, run}
 
@@ -35,7 +35,7 @@ pub record Kept (x : Named) (start after : Machine) : Type 0 where
 -- "Both start records meet no state refusal with the level put to 0". A record of the code has 31 event counters by its type
 pub record Start (r : Machine) : Type 0 where
   pub sized : length (r .counters) ≡ 31
-  pub consistent : verdict (viewOf (withLevel 0 r)) ≡ Consistent
+  pub consistent : verdictOf (viewOf (withLevel 0 r)) ≡ Consistent
 
 -- every access of the list is from level top or below
 abbrev pub fromLevels : ℕ → List Access → Bool

@@ -4,7 +4,7 @@ use Prim.Native.Nat.{ℕ, _/_, _%_, _^_}
 use mathlib.Core.Bool.{Bool, cond, not, _&&_, _||_}
 use lib.Dec.{leb, eqb}
 use Rattle.answer.specs.declared.Answer.{Answer}
-use Rattle.machine.specs.declared.View.{View}
+use Rattle.state.specs.declared.View.{View}
 use Rattle.rules.specs.declared.Decision.{Decision}
 use Rattle.rules.specs.declared.Decision.the-variants.{Says, ReadCounter, WriteCounter, Increment, ReadInstructions, WriteInstructions}
 use Rattle.rules.specs.Word.{isRead, rt, written}

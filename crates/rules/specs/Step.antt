@@ -8,12 +8,12 @@ use Rattle.answer.specs.declared.Answer.{Answer}
 use Rattle.machine.specs.declared.Machine.{Machine}
 use Rattle.machine.specs.declared.Outcome.{Outcome}
 use Rattle.machine.specs.declared.Settings.{Settings}
-use Rattle.machine.specs.declared.Verdict.{Verdict}
-use Rattle.machine.specs.declared.Verdict.the-variants.{Consistent, Refused}
-use Rattle.machine.specs.declared.View.{View}
+use Rattle.state.specs.declared.Verdict.{Verdict}
+use Rattle.state.specs.declared.Verdict.the-variants.{Consistent, Refused}
+use Rattle.state.specs.declared.View.{View}
 use Rattle.machine.specs.Machine.{withLevel, withCounters, withInstructions}
-use Rattle.machine.specs.Set.{done}
-use Rattle.machine.specs.State.{viewOf, verdict}
+use Rattle.machine.specs.Outcome.{done}
+use Rattle.state.specs.State.{viewOf, verdictOf}
 use Rattle.rules.specs.declared.Decision.{Decision}
 use Rattle.rules.specs.declared.Decision.the-variants.{Says, ReadCounter, WriteCounter, Increment, ReadInstructions, WriteInstructions}
 use Rattle.rules.specs.declared.Register.{Register}
@@ -62,7 +62,7 @@ unlessRefused (Refused r) d = Says (Answer.Refused r)
 
 -- what the access with word w and operand x is to do
 unfoldable pub decide : View → ℕ → ℕ → Decision
-decide v w x = unlessRefused (verdict v) (decideRegister v (register w) w x)
+decide v w x = unlessRefused (verdictOf v) (decideRegister v (register w) w x)
 
 -- the bits of an event counter: 64 with p5, else 32
 abbrev pub width : Settings → ℕ

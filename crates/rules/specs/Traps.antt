@@ -3,7 +3,7 @@ use Prim.Native.Nat.{ℕ}
 use mathlib.Core.Bool.{Bool, false, cond, not, _&&_, _||_}
 use lib.Dec.{leb, eqb}
 use Rattle.answer.specs.declared.Level.the-variants.{El1, El2, El3}
-use Rattle.machine.specs.declared.View.{View}
+use Rattle.state.specs.declared.View.{View}
 use Rattle.rules.specs.declared.Stop.{Stop}
 
 -- levels 0 to l

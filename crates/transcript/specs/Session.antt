@@ -9,9 +9,10 @@ use Rattle.answer.specs.declared.Refusal.the-variants.{ValueTooLarge, SessionTo
 use Rattle.machine.specs.declared.Machine.{Machine}
 use Rattle.machine.specs.declared.Outcome.{Outcome}
 use Rattle.machine.specs.Machine.{fresh}
-use Rattle.machine.specs.Set.{refused, set, setLevel}
+use Rattle.fields.specs.Set.{set, setLevel}
+use Rattle.machine.specs.Outcome.{says, refused}
 use Rattle.rules.specs.Step.{step}
-use Rattle.rules.specs.External.{says, externalRead, externalWrite, tick}
+use Rattle.rules.specs.External.{externalRead, externalWrite, tick}
 use Rattle.transcript.specs.declared.Command.{Command}
 use Rattle.transcript.specs.Command.{commandOf, sizeOf, isLast}
 use Rattle.transcript.specs.Line.{lineOf}

@@ -1,0 +1,4 @@
+-- The laws of the crate `fields`.
+pub mod Below
+pub mod StoreList
+pub mod SetLaws

@@ -1,0 +1,76 @@
+-- Laws of the set and level commands: one for each way that the tests can go.
+use Prim.Native.Nat.{ℕ, _<_, _≤_, _%_, _+_, _-_}
+use mathlib.Core.Bool.{Bool, true, false, cond, not, _||_}
+use mathlib.Core.List.{List}
+use mathlib.Core.Path.{_≡_, refl, sym, _∙_, ap}
+use native.Mathlib.Nat.{mod-eq-of-lt}
+use native.Mathlib.Omega.{arith}
+use borrow.Author.Tests.{lt-ltb, le-ltb, le-leb, lt-leb, ne-eqb, leb-true, eqb-true}
+use lib.Dec.{leb, ltb, eqb}
+use Rattle.fields.proofs.Below.{below}
+use Rattle.answer.specs.declared.Refusal.the-variants.{UnknownField, ValueTooLarge, LevelTooLarge}
+use Rattle.machine.specs.declared.Machine.{Machine}
+use Rattle.fields.specs.Largest.{within, largest}
+use Rattle.machine.specs.Machine.{withLevel}
+use Rattle.fields.specs.Store.{store, storeSettings, storeList}
+use Rattle.fields.specs.Set.{set, setLevel}
+use Rattle.machine.specs.Outcome.{refused, done}
+
+-- among the fields of the event numbers the largest value is 0xFFFF
+eventLargest : ℕ → Bool
+eventLargest f = not (leb 0x40 f) || eqb (largest f) 0xFFFF
+
+event-test : (f : ℕ) → f < 0x5F → eventLargest f ≡ true
+unfolding eventLargest largest
+event-test = below eventLargest 0x5F refl
+
+event-largest : (f : ℕ) → 0x40 ≤ f → f ≤ 0x5E → largest f ≡ 0xFFFF
+unfolding eventLargest
+event-largest f low high = eqb-true _ _ (rw (le-leb 0x40 f low) at (event-test f (omega arith)))
+
+-- an event number is at most 0xFFFF, so its low 16 bits are all of it
+event-fits : (f v : ℕ) → v ≤ largest f → (l : List ℕ) → storeList 0x40 f (v % 65536) l ≡ storeList 0x40 f v l
+event-fits f v h l = go (leb 0x40 f) refl (leb f 0x5E) refl
+  where
+    go : (a : Bool) → leb 0x40 f ≡ a → (b : Bool) → leb f 0x5E ≡ b → storeList 0x40 f (v % 65536) l ≡ storeList 0x40 f v l
+    go false e b e′ = rw e
+    go true e false e′ = rw (e, e′)
+    go true e true e′ =
+        let k : largest f ≡ 0xFFFF = event-largest f (leb-true _ _ e) (leb-true _ _ e′) in
+        rw (mod-eq-of-lt {n = v} {m = 65536} (omega arith))
+
+module _ (f v : ℕ) (m : Machine) where
+  pub set-unknown : largest f ≡ 0 → set f v m ≡ refused UnknownField m
+  unfolding set
+  set-unknown e = rw e
+
+  pub set-large : (largest f ≡ 0 → ⊥) → largest f < v → set f v m ≡ refused ValueTooLarge m
+  unfolding set
+  set-large n h = rw (lt-ltb 0 (largest f) (omega arith), lt-ltb (largest f) v h)
+
+  pub set-stored : (largest f ≡ 0 → ⊥) → v ≤ largest f → set f v m ≡ done (store f v m)
+  unfolding set
+  set-stored n h = rw (lt-ltb 0 (largest f) (omega arith), le-ltb (largest f) v h)
+
+  -- the record that the code makes, where the event number has passed through 16 bits
+  pub set-stores : (largest f ≡ 0 → ⊥) → v ≤ largest f
+      → done
+      (record {
+        level = m .level;
+        settings = storeSettings f v (m .settings);
+        events = storeList 0x40 f (v % 65536) (m .events);
+        counters = storeList 0x60 f v (m .counters);
+        instructions = cond (eqb f 0x7F) v (m .instructions);
+      })
+      ≡ set f v m
+  unfolding store
+  set-stores n h = rw (event-fits f v h (m .events)) (sym (set-stored n h))
+
+module _ (l : ℕ) (m : Machine) where
+  pub level-large : 3 < l → refused LevelTooLarge m ≡ setLevel l m
+  unfolding setLevel
+  level-large h = sym (rw (lt-ltb 3 l h))
+
+  pub level-put : l ≤ 3 → done (withLevel l m) ≡ setLevel l m
+  unfolding setLevel
+  level-put h = sym (rw (le-ltb 3 l h))

@@ -1,0 +1,4 @@
+-- The definitions of the crate `fields`.
+pub mod Largest
+pub mod Store
+pub mod Set

@@ -1,0 +1,22 @@
+-- The set and level commands: their tests, lowest number first, and the record afterwards.
+use Prim.Native.Nat.{ℕ}
+use mathlib.Core.Bool.{cond, not}
+use lib.Dec.{ltb}
+use Rattle.answer.specs.declared.Refusal.the-variants.{UnknownField, ValueTooLarge, LevelTooLarge}
+use Rattle.machine.specs.declared.Machine.{Machine}
+use Rattle.machine.specs.declared.Outcome.{Outcome}
+use Rattle.fields.specs.Largest.{largest, isField}
+use Rattle.machine.specs.Machine.{withLevel}
+use Rattle.machine.specs.Outcome.{refused, done}
+use Rattle.fields.specs.Store.{store}
+
+-- the set command: refusal 3, then 4, else the field holds the value
+unfoldable pub set : ℕ → ℕ → Machine → Outcome
+set f v m =
+    cond (not (isField f)) (refused UnknownField m)
+    (cond (ltb (largest f) v) (refused ValueTooLarge m)
+    (done (store f v m)))
+
+-- the level command: refusal 5, else the level is l
+unfoldable pub setLevel : ℕ → Machine → Outcome
+setLevel l m = cond (ltb 3 l) (refused LevelTooLarge m) (done (withLevel l m))

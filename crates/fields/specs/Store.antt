@@ -1,0 +1,145 @@
+-- The one table of field numbers: each field of the record after a value is stored to the field with number f.
+-- Nothing is tested here; specs/Set.antt has the tests of the set command.
+use Prim.Native.Nat.{ℕ, _+_, _-_}
+use mathlib.Core.Bool.{Bool, cond, not, _&&_, _||_}
+use mathlib.Core.List.{List}
+use lib.ListN.{set}
+use lib.Dec.{eqb}
+use Rattle.fields.specs.Largest.{within}
+use Rattle.machine.specs.declared.Features.{Features}
+use Rattle.machine.specs.declared.Execution.{Execution}
+use Rattle.machine.specs.declared.Pmuserenr.{Pmuserenr}
+use Rattle.machine.specs.declared.Hcr.{Hcr}
+use Rattle.machine.specs.declared.Mdcr2.{Mdcr2}
+use Rattle.machine.specs.declared.Mdcr3.{Mdcr3}
+use Rattle.machine.specs.declared.Scr.{Scr}
+use Rattle.machine.specs.declared.Hdfgrtr.{Hdfgrtr}
+use Rattle.machine.specs.declared.Hdfgwtr.{Hdfgwtr}
+use Rattle.machine.specs.declared.Pmuacr.{Pmuacr}
+use Rattle.machine.specs.declared.External.{External}
+use Rattle.machine.specs.declared.Settings.{Settings}
+use Rattle.machine.specs.declared.Machine.{Machine}
+
+-- the one-bit field number k after v is stored to field f: v where f is k, else as it was
+abbrev pub flag : ℕ → ℕ → ℕ → Bool → Bool
+flag k f v old = (eqb f k && eqb v 1) || (not (eqb f k) && old)
+
+-- the same of a field that holds a number
+abbrev pub number : ℕ → ℕ → ℕ → ℕ → ℕ
+number k f v old = cond (eqb f k) v old
+
+-- fields 00 to 0C
+unfoldable pub storeFeatures : ℕ → ℕ → Features → Features
+storeFeatures f v s =
+    record {
+      pmuv3 = flag 0x00 f v (s .pmuv3);
+      p5 = flag 0x01 f v (s .p5);
+      p9 = flag 0x02 f v (s .p9);
+      icntr = flag 0x03 f v (s .icntr);
+      fgt = flag 0x04 f v (s .fgt);
+      fgt2 = flag 0x05 f v (s .fgt2);
+      hpmn0 = flag 0x06 f v (s .hpmn0);
+      ext32 = flag 0x07 f v (s .ext32);
+      ext64 = flag 0x08 f v (s .ext64);
+      el2 = flag 0x09 f v (s .el2);
+      el3 = flag 0x0A f v (s .el3);
+      el3prio = flag 0x0B f v (s .el3prio);
+      n = number 0x0C f v (s .n);
+    }
+
+-- fields 10 to 12
+abbrev pub storeExecution : ℕ → ℕ → Execution → Execution
+storeExecution f v s =
+    record {
+      el2enabled = flag 0x10 f v (s .el2enabled);
+      halted = flag 0x11 f v (s .halted);
+      sdd = flag 0x12 f v (s .sdd);
+    }
+
+-- fields 20 to 23 and 31
+abbrev pub storePmuserenr : ℕ → ℕ → Pmuserenr → Pmuserenr
+storePmuserenr f v s =
+    record {
+      en = flag 0x20 f v (s .en);
+      sw = flag 0x21 f v (s .sw);
+      er = flag 0x22 f v (s .er);
+      uen = flag 0x23 f v (s .uen);
+      ir = flag 0x31 f v (s .ir);
+    }
+
+-- fields 24 and 25
+abbrev pub storeHcr : ℕ → ℕ → Hcr → Hcr
+storeHcr f v s = record { e2h = flag 0x24 f v (s .e2h); tge = flag 0x25 f v (s .tge) }
+
+-- fields 26 and 27
+unfoldable pub storeMdcr2 : ℕ → ℕ → Mdcr2 → Mdcr2
+storeMdcr2 f v s = record { tpm = flag 0x26 f v (s .tpm); hpmn = number 0x27 f v (s .hpmn) }
+
+-- fields 28 and 29
+abbrev pub storeMdcr3 : ℕ → ℕ → Mdcr3 → Mdcr3
+storeMdcr3 f v s = record { tpm = flag 0x28 f v (s .tpm); enpm2 = flag 0x29 f v (s .enpm2) }
+
+-- fields 2A and 2B
+abbrev pub storeScr : ℕ → ℕ → Scr → Scr
+storeScr f v s = record { fgten = flag 0x2A f v (s .fgten); fgten2 = flag 0x2B f v (s .fgten2) }
+
+-- fields 2C and 2F
+abbrev pub storeHdfgrtr : ℕ → ℕ → Hdfgrtr → Hdfgrtr
+storeHdfgrtr f v s = record { pmevcntrn = flag 0x2C f v (s .pmevcntrn); npmicntr = flag 0x2F f v (s .npmicntr) }
+
+-- fields 2D, 2E and 30
+abbrev pub storeHdfgwtr : ℕ → ℕ → Hdfgwtr → Hdfgwtr
+storeHdfgwtr f v s =
+    record {
+      pmevcntrn = flag 0x2D f v (s .pmevcntrn);
+      pmswinc = flag 0x2E f v (s .pmswinc);
+      npmicntr = flag 0x30 f v (s .npmicntr);
+    }
+
+-- fields 32 and 33
+unfoldable pub storePmuacr : ℕ → ℕ → Pmuacr → Pmuacr
+storePmuacr f v s = record { p = number 0x32 f v (s .p); f0 = flag 0x33 f v (s .f0) }
+
+-- fields 38 to 3C
+abbrev pub storeExternal : ℕ → ℕ → External → External
+storeExternal f v s =
+    record {
+      powered = flag 0x38 f v (s .powered);
+      doublelock = flag 0x39 f v (s .doublelock);
+      oslock = flag 0x3A f v (s .oslock);
+      allowed = flag 0x3B f v (s .allowed);
+      softwarelock = flag 0x3C f v (s .softwarelock);
+    }
+
+-- fields 00 to 3C; the counter enables are field 34
+unfoldable pub storeSettings : ℕ → ℕ → Settings → Settings
+storeSettings f v s =
+    record {
+      features = storeFeatures f v (s .features);
+      execution = storeExecution f v (s .execution);
+      pmuserenr = storePmuserenr f v (s .pmuserenr);
+      hcr = storeHcr f v (s .hcr);
+      mdcr2 = storeMdcr2 f v (s .mdcr2);
+      mdcr3 = storeMdcr3 f v (s .mdcr3);
+      scr = storeScr f v (s .scr);
+      hdfgrtr = storeHdfgrtr f v (s .hdfgrtr);
+      hdfgwtr = storeHdfgwtr f v (s .hdfgwtr);
+      pmuacr = storePmuacr f v (s .pmuacr);
+      cnten = number 0x34 f v (s .cnten);
+      external = storeExternal f v (s .external);
+    }
+
+-- a list of 31 numbers whose fields begin at first: element f - first takes v
+abbrev pub storeList : ℕ → ℕ → ℕ → List ℕ → List ℕ
+storeList first f v l = cond (within first (first + 30) f) (set l (f - first) v) l
+
+-- every field: event numbers are 40 to 5E, event counters 60 to 7E, the instruction counter 7F
+unfoldable pub store : ℕ → ℕ → Machine → Machine
+store f v m =
+    record {
+      level = m .level;
+      settings = storeSettings f v (m .settings);
+      events = storeList 0x40 f v (m .events);
+      counters = storeList 0x60 f v (m .counters);
+      instructions = number 0x7F f v (m .instructions);
+    }

@@ -1,0 +1,60 @@
+// The set and level commands of a session. A refused one leaves the record as it was.
+ghost use mathlib.Core.Path.{_≡_};
+ghost use Rattle.fields.specs.Set.{set, setLevel};
+use crate::largest::largest;
+use crate::store;
+use answer::Answer;
+use answer::Refusal;
+use machine::Machine;
+use machine::Outcome;
+
+// The set command: v to the field with number f. Refused with 3 where there is none, with 4 where v exceeds its largest value.
+pub fn set(f: u8, v: u64, m: Machine) -> Outcome
+    ensures { λ r. ⌜ r ≡ set f v m ⌝ }
+{
+    let most = largest(f);
+    if most == 0 {
+        return Outcome {
+            answer: Answer::Refused(Refusal::UnknownField),
+            machine: m,
+        };
+    }
+    if most < v {
+        return Outcome {
+            answer: Answer::Refused(Refusal::ValueTooLarge),
+            machine: m,
+        };
+    }
+    let settings = m.settings;
+    let events = m.events;
+    let counters = m.counters;
+    let machine = Machine {
+        level: m.level,
+        settings: store::settings(settings, f, v),
+        events: store::events(events, f, v),
+        counters: store::counters(counters, f, v),
+        instructions: store::pick(f == 0x7F, v, m.instructions),
+    };
+    Outcome {
+        answer: Answer::Ok,
+        machine: machine,
+    }
+}
+
+// The level command. Refused with 5 where l exceeds 3.
+pub fn set_level(l: u8, m: Machine) -> Outcome
+    ensures { λ r. ⌜ r ≡ setLevel l m ⌝ }
+{
+    if 3 < l {
+        return Outcome {
+            answer: Answer::Refused(Refusal::LevelTooLarge),
+            machine: m,
+        };
+    }
+    let mut next = m;
+    next.level = l;
+    Outcome {
+        answer: Answer::Ok,
+        machine: next,
+    }
+}

@@ -1,0 +1,91 @@
+-- The state refusals 10 to 17 (01, "Refused because of the state"), as tests on what a decision may look at.
+use Prim.Native.Nat.{ℕ, _^_}
+use mathlib.Core.Bool.{Bool, true, false, cond, not, _&&_, _||_}
+use mathlib.Core.List.{List, [], _∷_}
+use lib.Dec.{leb, ltb, eqb}
+use Rattle.answer.specs.declared.Refusal.{Refusal}
+use Rattle.answer.specs.declared.Refusal.the-variants.{FieldTooLarge, LevelUnavailable, El2Unimplemented, HpmnAboveN, HpmnZero, CounterTooWide, HostAtEl1, FeatureMissing}
+use Rattle.machine.specs.declared.Machine.{Machine}
+use Rattle.state.specs.declared.View.{View}
+use Rattle.state.specs.declared.Verdict.{Verdict}
+use Rattle.state.specs.declared.Verdict.the-variants.{Consistent, Refused}
+use Rattle.fields.specs.Largest.{largest}
+
+-- some counter is 2^32 or more
+abbrev pub anyWide : List ℕ → Bool
+anyWide [] = false
+anyWide (x ∷ xs) = leb (2 ^ 32) x || anyWide xs
+
+-- what a decision about an access may look at: the level, the settings and, of the counters, refusal 15's test alone
+unfoldable pub viewOf : Machine → View
+viewOf m =
+    record {
+      level = m .level;
+      settings = m .settings;
+      wide = not (m .settings .features .p5) && anyWide (m .counters);
+    }
+
+-- the field's largest value is below v
+abbrev pub exceeds : ℕ → ℕ → Bool
+exceeds v f = ltb (largest f) v
+
+-- 10: a field or the level exceeds its largest. A flag, an event number and a counter cannot: their types end there
+unfoldable pub tooLarge : View → Bool
+unfolding largest
+tooLarge v =
+    exceeds (v .settings .features .n) 0x0C
+    || exceeds (v .settings .mdcr2 .hpmn) 0x27
+    || exceeds (v .settings .pmuacr .p) 0x32
+    || exceeds (v .settings .cnten) 0x34
+    || ltb 3 (v .level)
+
+-- 11: level is 3 and EL3 missing, or 2 and EL2 not enabled
+abbrev pub levelUnavailable : View → Bool
+levelUnavailable v =
+    (eqb (v .level) 3 && not (v .settings .features .el3)) || (eqb (v .level) 2 && not (v .settings .execution .el2enabled))
+
+-- 12: EL2 enabled but not implemented
+abbrev pub el2Unimplemented : View → Bool
+el2Unimplemented v = v .settings .execution .el2enabled && not (v .settings .features .el2)
+
+-- 13: EL2 implemented and HPMN > N
+abbrev pub hpmnAboveN : View → Bool
+hpmnAboveN v = v .settings .features .el2 && ltb (v .settings .features .n) (v .settings .mdcr2 .hpmn)
+
+-- 14: EL2 implemented, HPMN is 0 and HPMN0 missing
+abbrev pub hpmnZero : View → Bool
+hpmnZero v =
+    v .settings .features .el2 && eqb (v .settings .mdcr2 .hpmn) 0 && not (v .settings .features .hpmn0)
+
+-- 15: p5 missing and some counter 0 to 30 is 2^32 or more
+abbrev pub counterTooWide : View → Bool
+counterTooWide v = v .wide
+
+-- 16: level 1, EL2 enabled and TGE 1
+abbrev pub hostAtEl1 : View → Bool
+hostAtEl1 v = eqb (v .level) 1 && v .settings .execution .el2enabled && v .settings .hcr .tge
+
+-- 17: p5, p9 or ICNTR without PMUv3, or p9 without p5
+abbrev pub featureMissing : View → Bool
+featureMissing v =
+    ((v .settings .features .p5 || v .settings .features .p9 || v .settings .features .icntr) && not (v .settings .features .pmuv3))
+    || (v .settings .features .p9 && not (v .settings .features .p5))
+
+-- "lowest number first"; "A record that meets none of these is consistent."
+abbrev pub firstRefusal : Bool → Bool → Bool → Bool → Bool → Bool → Bool → Bool → Verdict
+firstRefusal r10 r11 r12 r13 r14 r15 r16 r17 =
+    cond r10 (Refused FieldTooLarge)
+    (cond r11 (Refused LevelUnavailable)
+    (cond r12 (Refused El2Unimplemented)
+    (cond r13 (Refused HpmnAboveN)
+    (cond r14 (Refused HpmnZero)
+    (cond r15 (Refused CounterTooWide)
+    (cond r16 (Refused HostAtEl1)
+    (cond r17 (Refused FeatureMissing) Consistent)))))))
+
+-- the state test that every access, external access and tick begins with
+unfoldable pub verdictOf : View → Verdict
+verdictOf v =
+    firstRefusal (tooLarge v) (levelUnavailable v) (el2Unimplemented v) (hpmnAboveN v) (hpmnZero v) (counterTooWide v)
+    (hostAtEl1 v)
+    (featureMissing v)
