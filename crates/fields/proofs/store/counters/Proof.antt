@@ -1,31 +1,24 @@
+-- `store::counters` meets its contract, by the laws of `storeList`.
 use borrow.Author.Needs.{needs}
 use Rattle.fields.proofs.StoreList.{store-below, store-past, store-at}
 use Rattle.fields.proofs.store.counters.Statement.{statement}
 use Rattle.fields.proofs.store.counters.Tie as tie
-use Rattle.fields.proofs.store.counters.Reads as reads
-use Rattle.fields.proofs.store.counters.Lts as lts
 
--- src/store.rt:208:9
 returns : tie.Need-returns
 returns c = store-below _ _ _ _ (c .if1 .taken)
 
--- src/store.rt:211:9
 returns-2 : tie.Need-returns-2
 returns-2 c = store-past _ _ _ _ (c .before .if1 .left) (c .if2 .taken)
 
--- src/store.rt:213:14
 cast-at : tie.Need-cast-at
 cast-at c = search needs
 
--- src/store.rt:215:5
 mul-next : tie.Need-mul-next
 mul-next c = search needs
 
--- src/store.rt:215:5
 array-write-next : tie.Need-array-write-next
 array-write-next c = search needs
 
--- src/store.rt:204:1
 returns-3 : tie.Need-returns-3
 returns-3 c = store-at _ _ (c .before .before .args .v) (c .before .before .args .c) (c .before .if1 .left) (c .if2 .left)
 
