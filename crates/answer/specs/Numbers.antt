@@ -16,7 +16,7 @@ use Rattle.answer.specs.declared.Refusal.the-variants.{
   HpmnAboveN,
   HpmnZero,
   CounterTooWide,
-  HostAtEl1,
+  TgeAtEl1,
   FeatureMissing,
 }
 
@@ -47,7 +47,7 @@ refusalNumber HpmnZero = 14
 -- p5 missing and some counter 0 to 30 is 2^32 or more
 refusalNumber CounterTooWide = 15
 -- level 1, EL2 enabled and TGE 1
-refusalNumber HostAtEl1 = 16
+refusalNumber TgeAtEl1 = 16
 -- p5, p9 or ICNTR without PMUv3, or p9 without p5
 refusalNumber FeatureMissing = 17
 

@@ -16,7 +16,7 @@ pub enum Refusal {
     HpmnAboveN,
     HpmnZero,
     CounterTooWide,
-    HostAtEl1,
+    TgeAtEl1,
     FeatureMissing,
 }
 
@@ -64,7 +64,7 @@ pub fn refusal_number(r: Refusal) -> u8
         Refusal::HpmnAboveN => 13,
         Refusal::HpmnZero => 14,
         Refusal::CounterTooWide => 15,
-        Refusal::HostAtEl1 => 16,
+        Refusal::TgeAtEl1 => 16,
         Refusal::FeatureMissing => 17,
     }
 }

@@ -1,16 +1,16 @@
 -- Laws of the set and level commands: one for each way that the tests can go.
-use Prim.Native.Nat.{ℕ, _<_, _≤_, _%_, _+_, _-_}
+use Prim.Native.Nat.{ℕ, _<_, _≤_, _%_, _-_}
 use mathlib.Core.Bool.{Bool, true, false, cond, not, _||_}
 use mathlib.Core.List.{List}
-use mathlib.Core.Path.{_≡_, refl, sym, _∙_, ap}
+use mathlib.Core.Path.{_≡_, refl, sym}
 use native.Mathlib.Nat.{mod-eq-of-lt}
 use native.Mathlib.Omega.{arith}
-use borrow.Author.Tests.{lt-ltb, le-ltb, le-leb, lt-leb, ne-eqb, leb-true, eqb-true}
-use lib.Dec.{leb, ltb, eqb}
+use borrow.Author.Tests.{lt-ltb, le-ltb, le-leb, leb-true, eqb-true}
+use lib.Dec.{leb, eqb}
 use Rattle.fields.proofs.Below.{below}
 use Rattle.answer.specs.declared.Refusal.the-variants.{UnknownField, ValueTooLarge, LevelTooLarge}
 use Rattle.machine.specs.declared.Machine.{Machine}
-use Rattle.fields.specs.Largest.{within, largest}
+use Rattle.fields.specs.Largest.{largest}
 use Rattle.machine.specs.Machine.{withLevel}
 use Rattle.fields.specs.Store.{store, storeSettings, storeList}
 use Rattle.fields.specs.Set.{set, setLevel}

@@ -1,18 +1,15 @@
 -- One decision on two records that are alike but for named counters, which the decision does not touch: the answers are equal,
 -- the records stay alike, and each keeps its named counters.
-use Prim.Native.Nat.{ℕ, _<_, _≤_}
+use Prim.Native.Nat.{ℕ}
 use mathlib.Core.Bool.{Bool, true, false}
-use mathlib.Core.List.{List}
 use mathlib.Core.Path.{_≡_, refl, sym, _∙_, ap}
 use native.Mathlib.Omega.{arith}
 use borrow.Author.Tests.{eq-eqb, ltb-true, ltb-false}
-use lib.Dec.{eqb, ltb}
+use lib.Dec.{ltb}
 use lib.ListN.{getD, length, List·getD-eq-default}
 use Rattle.answer.specs.declared.Answer.{Answer}
 use Rattle.machine.specs.declared.Machine.{Machine}
-use Rattle.machine.specs.declared.Settings.{Settings}
 use Rattle.state.specs.declared.View.{View}
-use Rattle.machine.specs.Machine.{withLevel}
 use Rattle.state.specs.State.{viewOf}
 use Rattle.rules.specs.declared.Decision.{Decision}
 use Rattle.rules.specs.declared.Decision.the-variants.{Says, ReadCounter, WriteCounter, Increment, ReadInstructions, WriteInstructions}

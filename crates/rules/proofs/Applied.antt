@@ -1,15 +1,14 @@
 -- What a decision leaves in a record: the level, settings and event numbers as they were, each counter by a function of that
 -- counter alone, and no counter wider than before.
-use Prim.Native.Nat.{ℕ, _+_, _%_, _^_, _<_, _≤_}
+use Prim.Native.Nat.{ℕ, _+_, _%_, _^_, _<_}
 use mathlib.Core.Bool.{Bool, true, false, cond, not, _&&_}
 use mathlib.Core.List.{List}
-use mathlib.Core.Path.{_≡_, refl, sym, _∙_, ap}
+use mathlib.Core.Path.{_≡_, refl, ap}
 use native.Mathlib.Nat.{mod-lt}
 use borrow.Author.Tests.{lt-leb}
 use lib.Dec.{leb, eqb, lit<}
 use lib.ListN.{getD, length, length-set}
 use Rattle.machine.specs.declared.Machine.{Machine}
-use Rattle.machine.specs.declared.Settings.{Settings}
 use Rattle.state.specs.declared.View.{View}
 use Rattle.machine.specs.Machine.{withCounters, withInstructions}
 use Rattle.state.specs.State.{anyWide, viewOf}

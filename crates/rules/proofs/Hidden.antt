@@ -1,13 +1,12 @@
 -- No decision touches a named counter, for each of the three claims: counters from HPMN on, counters without their P bit, and
 -- the instruction counter without F0.
 use Prim.Native.Nat.{ℕ}
-use mathlib.Core.Bool.{Bool, true, false, cond, not, _&&_, _||_}
-use mathlib.Core.Path.{_≡_, refl, sym, _∙_, ap}
+use mathlib.Core.Bool.{Bool, true, false, not, _&&_, _||_}
+use mathlib.Core.Path.{_≡_, refl, _∙_, ap}
 use borrow.Author.Tests.{eqb-true}
 use lib.Dec.{leb, eqb}
 use Rattle.answer.specs.declared.Answer.{Answer}
 use Rattle.state.specs.declared.View.{View}
-use Rattle.rules.specs.declared.Decision.{Decision}
 use Rattle.rules.specs.declared.Decision.the-variants.{Says}
 use Rattle.rules.specs.declared.Register.{Register}
 use Rattle.rules.specs.declared.Register.the-variants.{Pmevcntr, Pmswinc, Pmicntr, Other}

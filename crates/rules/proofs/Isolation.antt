@@ -1,45 +1,26 @@
 -- Demand 3: two machines that differ only in counters hidden from EL0 or EL1 answer every list of accesses alike and keep those
 -- counters. One induction over the list, over any set of named counters that no decision touches; then the three claims.
-use Prim.Native.Nat.{ℕ, _≤_}
-use mathlib.Core.Bool.{Bool, true, false, not, _&&_}
+use Prim.Native.Nat.{ℕ}
+use mathlib.Core.Bool.{Bool, true, not, _&&_}
 use mathlib.Core.List.{List, [], _∷_}
-use mathlib.Core.Path.{_≡_, refl, sym, _∙_, ap, ap₂, subst, subst⁻¹}
+use mathlib.Core.Path.{_≡_, refl, _∙_, ap₂, subst, subst⁻¹}
 use native.Mathlib.Omega.{arith}
 use borrow.Author.Tests.{eq-eqb, leb-true, not-true}
 use lib.Dec.{eqb, leb}
-use Rattle.answer.specs.declared.Answer.{Answer}
 use Rattle.machine.specs.declared.Machine.{Machine}
 use Rattle.machine.specs.declared.Outcome.{Outcome}
 use Rattle.machine.specs.declared.Settings.{Settings}
-use Rattle.state.specs.declared.Verdict.the-variants.{Consistent}
 use Rattle.state.specs.declared.View.{View}
 use Rattle.machine.specs.Machine.{withLevel}
-use Rattle.state.specs.State.{viewOf, tooLarge, levelUnavailable, el2Unimplemented, hpmnAboveN, hpmnZero, counterTooWide, hostAtEl1, featureMissing, firstRefusal, verdictOf}
+use Rattle.state.specs.State.{viewOf}
+use Rattle.state.proofs.Consistent.{not-wide}
 use Rattle.fields.proofs.Below.{and-left, and-right}
 use Rattle.rules.specs.declared.Decision.{Decision}
-use Rattle.rules.specs.Isolation.{Named, SameExcept, Kept, Start, fromLevels, Isolated, Claim, fromHpmn, withoutP, instructionCounter, Demand3}
+use Rattle.rules.specs.Isolation.{Named, Kept, Start, fromLevels, Isolated, Claim, fromHpmn, withoutP, instructionCounter, Noninterference}
 use Rattle.rules.specs.Step.{Access, decide, apply, step, access, run}
 use Rattle.rules.proofs.Alike.{Sound, Alike, Hides, view-alike, answers-alike, stays-alike, kept-by}
 use Rattle.rules.proofs.Applied.{settings-stay}
 use Rattle.rules.proofs.Hidden.{hpmn-hidden, pmuacr-hidden, f0-hidden}
-
--- a consistent record does not meet refusal 15
-not-15 :
-    (r10 r11 r12 r13 r14 r15 r16 r17 : Bool) → firstRefusal r10 r11 r12 r13 r14 r15 r16 r17 ≡ Consistent → r15 ≡ false
-not-15 true r11 r12 r13 r14 r15 r16 r17 e = cc
-not-15 false true r12 r13 r14 r15 r16 r17 e = cc
-not-15 false false true r13 r14 r15 r16 r17 e = cc
-not-15 false false false true r14 r15 r16 r17 e = cc
-not-15 false false false false true r15 r16 r17 e = cc
-not-15 false false false false false true r16 r17 e = cc
-not-15 false false false false false false r16 r17 e = refl
-
-not-wide : (v : View) → verdictOf v ≡ Consistent → v .wide ≡ false
-unfolding verdictOf
-not-wide v e =
-    not-15 (tooLarge v) (levelUnavailable v) (el2Unimplemented v) (hpmnAboveN v) (hpmnZero v) (counterTooWide v) (hostAtEl1 v)
-    (featureMissing v)
-    e
 
 start-sound : {r : Machine} → Start r → Sound r
 unfolding viewOf
@@ -171,8 +152,8 @@ f0-hides v e low w y =
     record { counter = λ i n. cc; instructions = λ n. f0-hidden v (el0 (v .level) low) (not-true _ e) w y }
 
 -- demand 3
-pub demand3 : Demand3
-demand3 =
+pub noninterference : Noninterference
+noninterference =
     record {
       hpmn = claim 1 fromHpmn (λ s. s .execution .el2enabled) hpmn-hides;
       pmuacr = claim 0 withoutP (λ s. s .features .p9 && s .pmuserenr .uen && not (s .pmuserenr .sw)) pmuacr-hides;

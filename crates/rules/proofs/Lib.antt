@@ -7,3 +7,4 @@ pub mod Applied
 pub mod Hidden
 pub mod Alike
 pub mod Isolation
+pub mod Witness

@@ -1,7 +1,7 @@
 -- Which counter a decision touches, and that a decision which only says something touches none.
 use Prim.Native.Nat.{ℕ}
 use mathlib.Core.Bool.{Bool, true, false, cond}
-use mathlib.Core.Path.{_≡_, refl, subst⁻¹}
+use mathlib.Core.Path.{_≡_, subst⁻¹}
 use lib.Dec.{eqb}
 use Rattle.answer.specs.declared.Answer.{Answer}
 use Rattle.answer.specs.declared.Level.{Level}
@@ -16,7 +16,7 @@ use Rattle.rules.specs.declared.Stop.{Stop}
 use Rattle.rules.specs.Word.{register}
 use Rattle.rules.specs.Permitted.{increments}
 use Rattle.rules.specs.Step.{unlessStopped, undefinedAtOnce, stopOf, permitted, decideRegister, unlessRefused, decide}
-use Rattle.rules.specs.Traps.{rule1, rule2, rule3, rule4, rule5, rule6, gateTrap, stopAtEl3, firstOfSix, counterOrder}
+use Rattle.rules.specs.Traps.{rule1, rule2, rule3, rule4, rule5, rule6, disabledTrap, stopAtEl3, firstOfSix, counterOrder}
 
 -- the decision reads or changes event counter i, under this view
 abbrev pub touches : View → ℕ → Decision → Bool
@@ -75,16 +75,16 @@ module _ (f : Decision → Bool) (says : (a : Answer) → f (Says a) ≡ false) 
 
   -- where rule 5 applies, nothing is touched: whichever rule is first, the access is stopped
   pub stopped-by-5 :
-      (w : ℕ) (v : View) (shut fine above : Bool) (d : Decision) → rule5 v above ≡ true
-      → f (unlessStopped w (counterOrder v shut fine above) d) ≡ false
+      (w : ℕ) (v : View) (disabled trapBit above : Bool) (d : Decision) → rule5 v above ≡ true
+      → f (unlessStopped w (counterOrder v disabled trapBit above) d) ≡ false
   unfolding counterOrder
-  stopped-by-5 w v shut fine above d e =
+  stopped-by-5 w v disabled trapBit above d e =
       subst⁻¹
       (λ (r5 : Bool).
       f
       (unlessStopped w
-      (firstOfSix (rule1 v) (rule2 v shut) (rule3 v fine) (rule4 v) r5 (rule6 v) (gateTrap v) (stopAtEl3 v))
+      (firstOfSix (rule1 v) (rule2 v disabled) (rule3 v trapBit) (rule4 v) r5 (rule6 v) (disabledTrap v) (stopAtEl3 v))
       d)
       ≡ false)
       e
-      (by-5 w (rule1 v) (rule2 v shut) (rule3 v fine) (rule4 v) (rule6 v) _ (stopAtEl3 v) d)
+      (by-5 w (rule1 v) (rule2 v disabled) (rule3 v trapBit) (rule4 v) (rule6 v) _ (stopAtEl3 v) d)

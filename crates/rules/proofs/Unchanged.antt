@@ -1,7 +1,7 @@
 -- A record that meets a state refusal comes back unchanged with its number, from an access, an external access and a tick.
 use Prim.Native.Nat.{ℕ}
 use mathlib.Core.Bool.{Bool}
-use mathlib.Core.Path.{_≡_, refl}
+use mathlib.Core.Path.{_≡_}
 use Rattle.answer.specs.declared.Refusal.{Refusal}
 use Rattle.machine.specs.declared.Machine.{Machine}
 use Rattle.state.specs.declared.Verdict.the-variants.{Refused}

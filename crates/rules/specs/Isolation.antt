@@ -12,7 +12,7 @@ use Rattle.state.specs.declared.Verdict.the-variants.{Consistent}
 use Rattle.machine.specs.Machine.{withLevel}
 use Rattle.state.specs.State.{viewOf, verdictOf}
 use Rattle.rules.specs.Permitted.{bit}
-use Rattle.rules.specs.Step.{Access, Run, run}
+use Rattle.rules.specs.Step.{Access, run}
 
 -- "the counters named": which event counters, and whether field 7F
 pub record Named : Type 0 where
@@ -74,8 +74,8 @@ withoutP s = record { counter = λ m. not (bit m (s .pmuacr .p)); instructions =
 abbrev pub instructionCounter : Settings → Named
 instructionCounter s = record { counter = λ m. false; instructions = true }
 
--- demand 3, whole
-pub record Demand3 : Type 0 where
+-- demand 3, whole: a noninterference claim
+pub record Noninterference : Type 0 where
   -- EL2 enabled, accesses from EL0 and EL1
   pub hpmn : Claim 1 fromHpmn (λ s. s .execution .el2enabled)
   -- p9 present, UEN 1 and SW 0, accesses from EL0

@@ -5,5 +5,7 @@ pub mod Traps
 pub mod Permitted
 pub mod Step
 pub mod External
-pub mod Examples
+pub mod Example
+pub mod Worked
+pub mod Further
 pub mod Isolation

@@ -8,7 +8,7 @@ use Rattle.state.specs.declared.View.{View}
 use Rattle.rules.specs.declared.Decision.{Decision}
 use Rattle.rules.specs.declared.Decision.the-variants.{Says, ReadCounter, WriteCounter, Increment, ReadInstructions, WriteInstructions}
 use Rattle.rules.specs.Word.{isRead, rt, written}
-use Rattle.rules.specs.Traps.{atEl0, upTo, el2On, atOrAboveHpmn}
+use Rattle.rules.specs.Traps.{atEl0, upTo, el2Enabled, atOrAboveHpmn}
 
 -- bit m of a number
 abbrev pub bit : ℕ → ℕ → Bool
@@ -49,7 +49,7 @@ pmicntrAccess v w x =
 abbrev pub ignored : View → ℕ → Bool
 ignored v m =
     leb (v .settings .features .n) m
-    || (upTo 1 v && el2On v && atOrAboveHpmn v m)
+    || (upTo 1 v && el2Enabled v && atOrAboveHpmn v m)
     || (denied v m && not (v .settings .pmuserenr .sw))
 
 -- bit m of PMSWINC's operand is 1 and not ignored: its counter adds 1 if its event number is 0

@@ -29,7 +29,8 @@ unlessStopped w Stop.Pass d = d
 unlessStopped w Stop.Undef d = Says Answer.Undef
 unlessStopped w (Stop.Trap l) d = Says (Answer.Trap (record { target = l; syndrome = syndrome w }))
 
--- "Undefined at once: PMEVCNTR or PMSWINC without PMUv3, PMICNTR without ICNTR, MRS of PMSWINC, PMEVCNTR with m >= N."
+-- "Undefined at once: PMEVCNTR or PMSWINC without PMUv3, PMICNTR without ICNTR, MRS of PMSWINC, PMEVCNTR with m >= N." The last
+-- also without FGT, where page 001 leaves a choice: "ours are undefined for m >= N"
 abbrev pub undefinedAtOnce : View → Register → ℕ → Bool
 undefinedAtOnce v (Pmevcntr m) w = not (v .settings .features .pmuv3) || leb (v .settings .features .n) m
 undefinedAtOnce v Pmswinc w = not (v .settings .features .pmuv3) || isRead w
@@ -77,7 +78,8 @@ abbrev pub mapFrom : (ℕ → ℕ → ℕ) → ℕ → List ℕ → List ℕ
 mapFrom f i [] = []
 mapFrom f i (y ∷ ys) = f i y ∷ mapFrom f (suc i) ys
 
--- PMSWINC: "each operand bit m, 0 to 30, adds 1 to counter m if its event number is 0, the only thing looked at"
+-- PMSWINC: "each operand bit m, 0 to 30, adds 1 to counter m if its event number is 0, the only thing looked at". "Bits 63:31 are
+-- ignored.": there are 31 counters
 unfoldable pub incremented : View → List ℕ → ℕ → ℕ → ℕ → ℕ
 incremented v events x m y = cond (increments v x m && eqb (getD events m 0) 0) (plusOne (width (v .settings)) y) y
 

@@ -1,4 +1,5 @@
--- 01, "Order of traps": who is trapped, and where to. Every test is on a view, so none can depend on a counter.
+-- 01, "Order of traps": who is trapped, and where to. Every test is on a view, which holds nothing of the counters but the
+-- test of refusal 15.
 use Prim.Native.Nat.{ℕ}
 use mathlib.Core.Bool.{Bool, false, cond, not, _&&_, _||_}
 use lib.Dec.{leb, eqb}
@@ -14,12 +15,12 @@ abbrev pub atEl0 : View → Bool
 atEl0 v = eqb (v .level) 0
 
 -- "Rules 3 to 5 and their PMICNTR like need EL2 enabled."
-abbrev pub el2On : View → Bool
-el2On v = v .settings .execution .el2enabled
+abbrev pub el2Enabled : View → Bool
+el2Enabled v = v .settings .execution .el2enabled
 
 -- "Rule 1, PMICNTR's first rule and each stop at EL3 need EL3 implemented."
-abbrev pub el3In : View → Bool
-el3In v = v .settings .features .el3
+abbrev pub haveEl3 : View → Bool
+haveEl3 v = v .settings .features .el3
 
 -- Halted and SDD
 abbrev pub haltedSdd : View → Bool
@@ -31,37 +32,38 @@ notHostEl0 v = not (atEl0 v && v .settings .hcr .e2h && v .settings .hcr .tge)
 
 -- 1: "Levels 0 to 2: Halted, SDD, trap priority and MDCR_EL3.TPM all 1: undefined."
 abbrev pub rule1 : View → Bool
-rule1 v = el3In v && upTo 2 v && haltedSdd v && v .settings .features .el3prio && v .settings .mdcr3 .tpm
+rule1 v = haveEl3 v && upTo 2 v && haltedSdd v && v .settings .features .el3prio && v .settings .mdcr3 .tpm
 
--- 2: "Level 0, the gate is shut"
+-- 2: "Level 0, the gate is shut": PMUSERENR has disabled the access
 abbrev pub rule2 : View → Bool → Bool
-rule2 v shut = atEl0 v && shut
+rule2 v disabled = atEl0 v && disabled
 
 -- 3: "Levels 0 and 1, FGT present, EL3 missing or FGTEn 1, and the fine-grained bit of this register and direction 1"
 abbrev pub rule3 : View → Bool → Bool
-rule3 v fine =
-    el2On v
+rule3 v trapBit =
+    el2Enabled v
     && upTo 1 v
     && notHostEl0 v
     && v .settings .features .fgt
-    && (not (el3In v) || v .settings .scr .fgten)
-    && fine
+    && (not (haveEl3 v) || v .settings .scr .fgten)
+    && trapBit
 
 -- 4: "Levels 0 and 1, MDCR_EL2.TPM 1: trap to EL2."
 abbrev pub rule4 : View → Bool
-rule4 v = el2On v && upTo 1 v && v .settings .mdcr2 .tpm
+rule4 v = el2Enabled v && upTo 1 v && v .settings .mdcr2 .tpm
 
--- 5: "Levels 0 and 1, PMEVCNTR only, m >= HPMN: trap to EL2."
+-- 5: "Levels 0 and 1, PMEVCNTR only, m >= HPMN: trap to EL2." Also without FGT, where page 001 leaves a choice: "ours are ..
+-- a trap to EL2 for HPMN <= m < N"
 abbrev pub rule5 : View → Bool → Bool
-rule5 v above = el2On v && upTo 1 v && above
+rule5 v above = el2Enabled v && upTo 1 v && above
 
 -- 6: "Levels 0 to 2: stop at EL3 on MDCR_EL3.TPM."
 abbrev pub rule6 : View → Bool
-rule6 v = el3In v && upTo 2 v && v .settings .mdcr3 .tpm
+rule6 v = haveEl3 v && upTo 2 v && v .settings .mdcr3 .tpm
 
 -- rule 2's target: "trap to EL2 if EL2 is enabled and TGE is 1, else to EL1"
-abbrev pub gateTrap : View → Stop
-gateTrap v = Stop.Trap (cond (el2On v && v .settings .hcr .tge) El2 El1)
+abbrev pub disabledTrap : View → Stop
+disabledTrap v = Stop.Trap (cond (el2Enabled v && v .settings .hcr .tge) El2 El1)
 
 -- "Stop at EL3 on c means: undefined if Halted and SDD, else a trap to EL3."
 abbrev pub stopAtEl3 : View → Stop
@@ -77,10 +79,11 @@ firstOfSix r1 r2 r3 r4 r5 r6 gate el3 =
     (cond r5 (Stop.Trap El2)
     (cond r6 el3 Stop.Pass)))))
 
--- the order for PMEVCNTR and PMSWINC, from the gate, the fine-grained bit, and whether m >= HPMN
+-- the order for PMEVCNTR and PMSWINC, from whether PMUSERENR disables the access at EL0, the fine-grained bit of the register
+-- and direction, and whether m >= HPMN
 unfoldable pub counterOrder : View → Bool → Bool → Bool → Stop
-counterOrder v shut fine above =
-    firstOfSix (rule1 v) (rule2 v shut) (rule3 v fine) (rule4 v) (rule5 v above) (rule6 v) (gateTrap v) (stopAtEl3 v)
+counterOrder v disabled trapBit above =
+    firstOfSix (rule1 v) (rule2 v disabled) (rule3 v trapBit) (rule4 v) (rule5 v above) (rule6 v) (disabledTrap v) (stopAtEl3 v)
 
 -- m >= HPMN
 abbrev pub atOrAboveHpmn : View → ℕ → Bool
@@ -99,11 +102,11 @@ unfoldable pub pmswincStop : View → Stop
 pmswincStop v =
     counterOrder v (not (v .settings .pmuserenr .en) && not (v .settings .pmuserenr .sw)) (v .settings .hdfgwtr .pmswinc) false
 
--- PMICNTR's first rule: "levels 0 to 2, Halted, SDD and trap priority all 1, and at least one of EnPM2 0 and MDCR_EL3.TPM 1:
+-- The rules for PMICNTR have numbers here by their place; its fourth is rule 4 and its sixth rule 6. The first: "levels 0 to 2, Halted, SDD and trap priority all 1, and at least one of EnPM2 0 and MDCR_EL3.TPM 1:
 -- undefined"
 abbrev pub icntrRule1 : View → Bool
 icntrRule1 v =
-    el3In v
+    haveEl3 v
     && upTo 2 v
     && haltedSdd v
     && v .settings .features .el3prio
@@ -112,20 +115,20 @@ icntrRule1 v =
 -- "Then levels 0 and 1 (level 0 only unless E2H and TGE are both 1): FGT2 present, EL3 implemented and FGTEn2 0, trap to EL2"
 abbrev pub icntrRule2 : View → Bool
 icntrRule2 v =
-    el2On v
+    el2Enabled v
     && upTo 1 v
     && notHostEl0 v
     && v .settings .features .fgt2
-    && el3In v
+    && haveEl3 v
     && not (v .settings .scr .fgten2)
 
 -- "FGT2 present and this direction's nPMICNTR bit 0, trap to EL2"
 abbrev pub icntrRule3 : View → Bool → Bool
-icntrRule3 v fine = el2On v && upTo 1 v && notHostEl0 v && v .settings .features .fgt2 && not fine
+icntrRule3 v nPMICNTR = el2Enabled v && upTo 1 v && notHostEl0 v && v .settings .features .fgt2 && not nPMICNTR
 
 -- "Then MDCR_EL2.TPM at levels 0 and 1, trap to EL2" is rule 4. "Then levels 0 to 2: stop at EL3 on EnPM2 0, then on TPM 1."
 abbrev pub icntrRule5 : View → Bool
-icntrRule5 v = el3In v && upTo 2 v && not (v .settings .mdcr3 .enpm2)
+icntrRule5 v = haveEl3 v && upTo 2 v && not (v .settings .mdcr3 .enpm2)
 
 -- the order for PMICNTR, on its rules' tests
 abbrev pub icntrOrder : Bool → Bool → Bool → Bool → Bool → Bool → Stop → Stop
@@ -137,7 +140,7 @@ icntrOrder r1 r2 r3 r4 r5 r6 el3 =
     (cond r5 el3
     (cond r6 el3 Stop.Pass)))))
 
--- PMICNTR, with the fine-grained bits 2F and 30. "Page 004 has no PMUSERENR gate here."
+-- PMICNTR, with the fine-grained bits 2F and 30, of HDFGRTR2_EL2 and HDFGWTR2_EL2. "Page 004 has no PMUSERENR gate here."
 unfoldable pub pmicntrStop : View → Bool → Stop
 pmicntrStop v read =
     icntrOrder (icntrRule1 v) (icntrRule2 v)

@@ -10,8 +10,8 @@ abbrev pub bits : ℕ → ℕ → ℕ → ℕ
 bits high low w = w / 2 ^ low % 2 ^ (high + 1 - low)
 
 -- "Bits 31:22 are 0x354, .. bit 20 is 1"
-abbrev pub isMove : ℕ → Bool
-isMove w = eqb (bits 31 22 w) 0x354 && eqb (bits 20 20 w) 1
+abbrev pub isMrsMsr : ℕ → Bool
+isMrsMsr w = eqb (bits 31 22 w) 0x354 && eqb (bits 20 20 w) 1
 
 -- "bit 21 is 1 for MRS (read) and 0 for MSR (write)"
 abbrev pub direction : ℕ → ℕ
@@ -37,18 +37,21 @@ abbrev pub op2 : ℕ → ℕ
 op2 w = bits 7 5 w
 
 abbrev pub rt : ℕ → ℕ
-rt w = bits 4 0 w
+rt w = w % 2 ^ 5
+
+-- "CRn 14, CRm 8 to 11 is PMEVCNTR with m = 8 × (CRm mod 4) + op2; CRn 9, CRm 12, op2 4 is PMSWINC; CRn 9, CRm 4, op2 0 is
+-- PMICNTR."
+unfoldable pub named : ℕ → ℕ → ℕ → Register
+named n m o =
+    cond (eqb n 14 && (leb 8 m && leb m 11)) (Pmevcntr (8 * (m % 4) + o))
+    (cond (eqb n 9 && (eqb m 12 && eqb o 4)) Pmswinc
+    (cond (eqb n 9 && (eqb m 4 && eqb o 0)) Pmicntr Other))
 
 -- "With op0 3 and op1 3: .. All other words answer `other`."
 unfoldable pub register : ℕ → Register
-register w =
-    cond (isMove w && eqb (op0 w) 3 && eqb (op1 w) 3)
-    (cond (eqb (crn w) 14 && leb 8 (crm w) && leb (crm w) 11) (Pmevcntr (8 * (crm w % 4) + op2 w))
-    (cond (eqb (crn w) 9 && eqb (crm w) 12 && eqb (op2 w) 4) Pmswinc
-    (cond (eqb (crn w) 9 && eqb (crm w) 4 && eqb (op2 w) 0) Pmicntr Other)))
-    Other
+register w = cond (isMrsMsr w && eqb (op0 w) 3 && eqb (op1 w) 3) (named (crn w) (crm w) (op2 w)) Other
 
--- "With Rt 31 a write's operand is 0."
+-- "With Rt 31 a write's operand is 0. A read's operand is not looked at.": only writes use this
 unfoldable pub written : ℕ → ℕ → ℕ
 written w operand = cond (eqb (rt w) 31) 0 operand
 

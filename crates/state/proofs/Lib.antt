@@ -1,2 +1,3 @@
 -- The laws of the crate `state`.
 pub mod Wide
+pub mod Consistent

@@ -1,10 +1,9 @@
 -- The state refusals 10 to 17 (01, "Refused because of the state"), as tests on what a decision may look at.
 use Prim.Native.Nat.{ℕ, _^_}
-use mathlib.Core.Bool.{Bool, true, false, cond, not, _&&_, _||_}
+use mathlib.Core.Bool.{Bool, false, cond, not, _&&_, _||_}
 use mathlib.Core.List.{List, [], _∷_}
 use lib.Dec.{leb, ltb, eqb}
-use Rattle.answer.specs.declared.Refusal.{Refusal}
-use Rattle.answer.specs.declared.Refusal.the-variants.{FieldTooLarge, LevelUnavailable, El2Unimplemented, HpmnAboveN, HpmnZero, CounterTooWide, HostAtEl1, FeatureMissing}
+use Rattle.answer.specs.declared.Refusal.the-variants.{FieldTooLarge, LevelUnavailable, El2Unimplemented, HpmnAboveN, HpmnZero, CounterTooWide, TgeAtEl1, FeatureMissing}
 use Rattle.machine.specs.declared.Machine.{Machine}
 use Rattle.state.specs.declared.View.{View}
 use Rattle.state.specs.declared.Verdict.{Verdict}
@@ -57,13 +56,13 @@ abbrev pub hpmnZero : View → Bool
 hpmnZero v =
     v .settings .features .el2 && eqb (v .settings .mdcr2 .hpmn) 0 && not (v .settings .features .hpmn0)
 
--- 15: p5 missing and some counter 0 to 30 is 2^32 or more
+-- 15: p5 missing and some counter 0 to 30 is 2^32 or more. Both are in `wide`, as `viewOf` makes it
 abbrev pub counterTooWide : View → Bool
 counterTooWide v = v .wide
 
 -- 16: level 1, EL2 enabled and TGE 1
-abbrev pub hostAtEl1 : View → Bool
-hostAtEl1 v = eqb (v .level) 1 && v .settings .execution .el2enabled && v .settings .hcr .tge
+abbrev pub tgeAtEl1 : View → Bool
+tgeAtEl1 v = eqb (v .level) 1 && v .settings .execution .el2enabled && v .settings .hcr .tge
 
 -- 17: p5, p9 or ICNTR without PMUv3, or p9 without p5
 abbrev pub featureMissing : View → Bool
@@ -80,12 +79,12 @@ firstRefusal r10 r11 r12 r13 r14 r15 r16 r17 =
     (cond r13 (Refused HpmnAboveN)
     (cond r14 (Refused HpmnZero)
     (cond r15 (Refused CounterTooWide)
-    (cond r16 (Refused HostAtEl1)
+    (cond r16 (Refused TgeAtEl1)
     (cond r17 (Refused FeatureMissing) Consistent)))))))
 
 -- the state test that every access, external access and tick begins with
 unfoldable pub verdictOf : View → Verdict
 verdictOf v =
     firstRefusal (tooLarge v) (levelUnavailable v) (el2Unimplemented v) (hpmnAboveN v) (hpmnZero v) (counterTooWide v)
-    (hostAtEl1 v)
+    (tgeAtEl1 v)
     (featureMissing v)

@@ -50,7 +50,7 @@ fn first_refusal(
         return Verdict::Refused(Refusal::CounterTooWide);
     }
     if r16 {
-        return Verdict::Refused(Refusal::HostAtEl1);
+        return Verdict::Refused(Refusal::TgeAtEl1);
     }
     if r17 {
         return Verdict::Refused(Refusal::FeatureMissing);

@@ -2,7 +2,7 @@
 use Prim.Native.Nat.{ℕ, zero, suc, _+_, _/_, _%_, _^_}
 use Prim.Native.Char.{code}
 use Prim.Native.String.{String, [] as empty, _∷_ as _then_}
-use mathlib.Core.Bool.{true, false, cond}
+use mathlib.Core.Bool.{cond}
 use mathlib.Core.List.{List, [], _∷_, _++_}
 use lib.Dec.{ltb}
 
@@ -15,7 +15,7 @@ bytes (c then s) = code c ∷ bytes s
 abbrev pub decimalDigit : ℕ → ℕ
 decimalDigit d = 48 + d
 
--- the last k digits of n in decimal, without leading zeros
+-- n in decimal, without leading zeros, where it has no more than k digits
 abbrev pub decimalDigits : ℕ → ℕ → List ℕ
 decimalDigits zero n = []
 decimalDigits (suc k) n =

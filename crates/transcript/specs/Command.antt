@@ -3,7 +3,7 @@ use Prim.Native.Nat.{ℕ, _+_, _*_}
 use mathlib.Core.Bool.{Bool, true, false, cond}
 use mathlib.Core.List.{List, [], _∷_}
 use lib.Dec.{ltb, eqb}
-use lib.ListN.{length, getD, take, drop}
+use lib.ListN.{length, take, drop}
 use Rattle.answer.specs.declared.Refusal.the-variants.{UnknownCommand, Truncated}
 use Rattle.transcript.specs.declared.Command.{Command}
 
@@ -49,16 +49,10 @@ commandOf (c ∷ rest) =
     (cond (ltb (length rest) (operandBytes c)) (Command.Bad Truncated)
     (commandWith c rest))
 
--- how many bytes a command takes; past a bad one nothing is read
-abbrev pub sizeOf : Command → ℕ
-sizeOf Command.End = 1
-sizeOf (Command.Set f v) = 10
-sizeOf (Command.Level l) = 2
-sizeOf (Command.Access w x) = 13
-sizeOf (Command.Read o) = 3
-sizeOf (Command.Write o x) = 11
-sizeOf (Command.Tick p) = 2
-sizeOf (Command.Bad r) = 0
+-- how many bytes the command at the front takes, its own among them
+abbrev pub sizeAt : List ℕ → ℕ
+sizeAt [] = 0
+sizeAt (c ∷ rest) = 1 + operandBytes c
 
 -- "After 1, 2 or 6 reading ends. After 3, 4, 5 it goes on." "Bytes after the end command are ignored."
 abbrev pub isLast : Command → Bool

@@ -1,4 +1,4 @@
--- The worked session of 01, "Sessions", and the shortest ones that are refused, as data: bytes, and the whole output.
+-- The worked session of 01, "Sessions", and sessions at the edges of what is run, as data: bytes, and the whole output.
 use Prim.Native.Nat.{ℕ, zero, suc, _/_, _%_}
 use Prim.Native.String.{String}
 use mathlib.Core.List.{List, [], _∷_, _++_}
@@ -35,4 +35,7 @@ examples =
     -- "Refusal 6 gives `0 refused 6` alone", at 4,097 bytes; at 4,096 the session is run
     ∷ record { input = replicate 4097 0x00; output = "0 refused 6\n" }
     ∷ record { input = replicate 4096 0x00; output = "1 end\n" }
+    -- refusals 1 and 2 end the reading, 3, 4 and 5 do not
+    ∷ record { input = 0x07 ∷ 0x00 ∷ []; output = "1 refused 1\n" }
+    ∷ record { input = 0x02 ∷ 0x04 ∷ 0x06 ∷ 0x02 ∷ (0x01 ∷ 0x0D ∷ v 0) ++ (0x01 ∷ []); output = "1 refused 5\n2 refused 4\n3 refused 3\n4 refused 2\n" }
     ∷ []

@@ -1,6 +1,6 @@
 -- 01, "Sessions": what each command does, the answers of a session's bytes, and the whole output.
 use Prim.Native.Nat.{ℕ, zero, suc, _+_}
-use mathlib.Core.Bool.{Bool, true, false, cond}
+use mathlib.Core.Bool.{cond}
 use mathlib.Core.List.{List, [], _∷_, _++_}
 use lib.Dec.{ltb, eqb}
 use lib.ListN.{length, drop}
@@ -14,7 +14,7 @@ use Rattle.machine.specs.Outcome.{says, refused}
 use Rattle.rules.specs.Step.{step}
 use Rattle.rules.specs.External.{externalRead, externalWrite, tick}
 use Rattle.transcript.specs.declared.Command.{Command}
-use Rattle.transcript.specs.Command.{commandOf, sizeOf, isLast}
+use Rattle.transcript.specs.Command.{commandOf, sizeAt, isLast}
 use Rattle.transcript.specs.Line.{lineOf}
 
 -- what a command answers and does to the record. Refusal 4: "a flag operand exceeds 1"
@@ -35,7 +35,7 @@ answersFrom zero s r = []
 answersFrom (suc k) s r =
     let c = commandOf s in
     let o = execute c r in
-    let rest = answersFrom k (drop (sizeOf c) s) (o .machine) in
+    let rest = answersFrom k (drop (sizeAt s) s) (o .machine) in
     o .answer ∷ cond (isLast c) [] rest
 
 -- the lines of answers, from a position on

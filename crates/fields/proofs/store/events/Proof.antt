@@ -11,21 +11,9 @@ returns c = store-below _ _ _ _ (c .if1 .taken)
 returns-2 : tie.Need-returns-2
 returns-2 c = store-past _ _ _ _ (c .before .if1 .left) (c .if2 .taken)
 
-cast-at : tie.Need-cast-at
-cast-at c = search needs
-
-cast-next : tie.Need-cast-next
-cast-next c = search needs
-
-mul-next : tie.Need-mul-next
-mul-next c = search needs
-
-array-write-next : tie.Need-array-write-next
-array-write-next c = search needs
-
 returns-3 : tie.Need-returns-3
 returns-3 c = store-at _ _ (c .before .before .args .v % 65536) (c .before .before .args .e) (c .before .if1 .left) (c .if2 .left)
 
 pub events-spec : {M : Type 1} → statement M
 events-spec =
-    tie.close (tie.spec returns returns-2 cast-at cast-next mul-next array-write-next returns-3)
+    tie.close (tie.spec returns returns-2 (λ c. search needs) (λ c. search needs) (λ c. search needs) (λ c. search needs) returns-3)

@@ -1,0 +1,94 @@
+-- What a worked example is: a record, what is done to it, the answers, and the record afterwards.
+use Prim.Native.Nat.{ℕ}
+use mathlib.Core.Bool.{Bool, true, not, _&&_}
+use mathlib.Core.List.{List, [], _∷_, _++_}
+use lib.Dec.{ltb}
+use Rattle.answer.specs.declared.Answer.{Answer}
+use Rattle.answer.specs.declared.Level.{Level}
+use Rattle.machine.specs.declared.Machine.{Machine}
+use Rattle.machine.specs.declared.Outcome.{Outcome}
+use Rattle.machine.specs.Machine.{fresh, withLevel}
+use Rattle.fields.specs.Largest.{largest, isField}
+use Rattle.fields.specs.Set.{set}
+use Rattle.rules.specs.Step.{step, Run}
+use Rattle.rules.specs.External.{externalRead, externalWrite, tick}
+
+-- one thing done to a record
+pub data Action : Type 0 where
+  access : ℕ → ℕ → Action
+  read : ℕ → Action
+  write : ℕ → ℕ → Action
+  ticks : Bool → Action
+
+-- what is set before, field and value; the level; what is done; what it answers; and what is then set
+pub record Example : Type 0 where
+  pub given : List (ℕ × ℕ)
+  pub level : ℕ
+  pub actions : List Action
+  pub answers : List Answer
+  pub after : List (ℕ × ℕ)
+
+unfoldable pub perform : Action → Machine → Outcome
+perform (access w x) r = step w x r
+perform (read o) r = externalRead o r
+perform (write o x) r = externalWrite o x r
+perform (ticks p) r = tick p r
+
+unfoldable pub performAll : List Action → Machine → Run
+performAll [] r = record { answers = []; machine = r }
+performAll (m ∷ rest) r =
+    let o = perform m r in
+    let then = performAll rest (o .machine) in
+    record { answers = o .answer ∷ then .answers; machine = then .machine }
+
+-- the record after these set commands
+unfoldable pub setAll : List (ℕ × ℕ) → Machine → Machine
+setAll [] r = r
+setAll (s ∷ rest) r = setAll rest ((set (s .0) (s .1) r) .machine)
+
+-- none of them is refused
+unfoldable pub valid : List (ℕ × ℕ) → Bool
+valid [] = true
+valid (s ∷ rest) = isField (s .0) && not (ltb (largest (s .0)) (s .1)) && valid rest
+
+unfoldable pub allValid : List Example → Bool
+allValid [] = true
+allValid (e ∷ rest) = valid (e .given ++ e .after) && allValid rest
+
+-- "Unless said: PMUv3, p5, p9, FGT, EXT64, EL2 implemented and enabled, powered, external access allowed, N 6, HPMN 4, EN 1,
+-- other bits 0."
+unfoldable pub usual : Machine
+usual =
+    setAll
+    ((0x00, 1)
+    ∷ (0x01, 1)
+    ∷ (0x02, 1)
+    ∷ (0x04, 1)
+    ∷ (0x08, 1)
+    ∷ (0x09, 1)
+    ∷ (0x10, 1)
+    ∷ (0x38, 1)
+    ∷ (0x3B, 1)
+    ∷ (0x0C, 6)
+    ∷ (0x27, 4)
+    ∷ (0x20, 1)
+    ∷ [])
+    fresh
+
+unfoldable pub start : Example → Machine
+start e = withLevel (e .level) (setAll (e .given) usual)
+
+-- what the definitions give, and what the example says: every answer, and the whole record afterwards
+unfoldable pub actual : Example → Run
+actual e = performAll (e .actions) (start e)
+
+unfoldable pub expected : Example → Run
+expected e = record { answers = e .answers; machine = setAll (e .after) (start e) }
+
+-- a trap to this level with this syndrome
+abbrev pub trap : Level → ℕ → Answer
+trap l s = Answer.Trap (record { target = l; syndrome = s })
+
+-- MSR PMSWINC_EL0, X1
+abbrev pub swinc : ℕ → Action
+swinc x = access 0xD51B9C81 x
