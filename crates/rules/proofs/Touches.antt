@@ -67,6 +67,7 @@ module _ (f : Decision → Bool) (says : (a : Answer) → f (Says a) ≡ false) 
   by-5 :
       (w : ℕ) (r1 r2 r3 r4 r6 : Bool) (l : Level) (el3 : Stop) (d : Decision)
       → f (unlessStopped w (firstOfSix r1 r2 r3 r4 true r6 (Stop.Trap l) el3) d) ≡ false
+  unfolding firstOfSix
   by-5 w true r2 r3 r4 r6 l el3 d = says _
   by-5 w false true r3 r4 r6 l el3 d = says _
   by-5 w false false true r4 r6 l el3 d = says _
@@ -77,7 +78,7 @@ module _ (f : Decision → Bool) (says : (a : Answer) → f (Says a) ≡ false) 
   pub stopped-by-5 :
       (w : ℕ) (v : View) (disabled trapBit above : Bool) (d : Decision) → rule5 v above ≡ true
       → f (unlessStopped w (counterOrder v disabled trapBit above) d) ≡ false
-  unfolding counterOrder
+  unfolding counterOrder disabledTrap
   stopped-by-5 w v disabled trapBit above d e =
       subst⁻¹
       (λ (r5 : Bool).

@@ -62,15 +62,15 @@ abbrev pub rule6 : View → Bool
 rule6 v = haveEl3 v && upTo 2 v && v .settings .mdcr3 .tpm
 
 -- rule 2's target: "trap to EL2 if EL2 is enabled and TGE is 1, else to EL1"
-abbrev pub disabledTrap : View → Stop
+unfoldable pub disabledTrap : View → Stop
 disabledTrap v = Stop.Trap (cond (el2Enabled v && v .settings .hcr .tge) El2 El1)
 
 -- "Stop at EL3 on c means: undefined if Halted and SDD, else a trap to EL3."
-abbrev pub stopAtEl3 : View → Stop
+unfoldable pub stopAtEl3 : View → Stop
 stopAtEl3 v = cond (haltedSdd v) Stop.Undef (Stop.Trap El3)
 
 -- "PMEVCNTR and PMSWINC, first that applies", on the six rules' tests and the two stops that depend on the view
-abbrev pub firstOfSix : Bool → Bool → Bool → Bool → Bool → Bool → Stop → Stop → Stop
+unfoldable pub firstOfSix : Bool → Bool → Bool → Bool → Bool → Bool → Stop → Stop → Stop
 firstOfSix r1 r2 r3 r4 r5 r6 gate el3 =
     cond r1 Stop.Undef
     (cond r2 gate
@@ -130,9 +130,9 @@ icntrRule3 v nPMICNTR = el2Enabled v && upTo 1 v && notHostEl0 v && v .settings 
 abbrev pub icntrRule5 : View → Bool
 icntrRule5 v = haveEl3 v && upTo 2 v && not (v .settings .mdcr3 .enpm2)
 
--- the order for PMICNTR, on its rules' tests
-abbrev pub icntrOrder : Bool → Bool → Bool → Bool → Bool → Bool → Stop → Stop
-icntrOrder r1 r2 r3 r4 r5 r6 el3 =
+-- the first of PMICNTR's rules that applies, on their tests and the stop at EL3
+unfoldable pub firstOfIcntr : Bool → Bool → Bool → Bool → Bool → Bool → Stop → Stop
+firstOfIcntr r1 r2 r3 r4 r5 r6 el3 =
     cond r1 Stop.Undef
     (cond r2 (Stop.Trap El2)
     (cond r3 (Stop.Trap El2)
@@ -140,12 +140,11 @@ icntrOrder r1 r2 r3 r4 r5 r6 el3 =
     (cond r5 el3
     (cond r6 el3 Stop.Pass)))))
 
--- PMICNTR, with the fine-grained bits 2F and 30, of HDFGRTR2_EL2 and HDFGWTR2_EL2. "Page 004 has no PMUSERENR gate here."
+-- the order for PMICNTR, from the fine-grained bit of the direction. "Page 004 has no PMUSERENR gate here."
+unfoldable pub icntrOrder : View → Bool → Stop
+icntrOrder v nPMICNTR =
+    firstOfIcntr (icntrRule1 v) (icntrRule2 v) (icntrRule3 v nPMICNTR) (rule4 v) (icntrRule5 v) (rule6 v) (stopAtEl3 v)
+
+-- PMICNTR: the fine-grained bits are 2F and 30, of HDFGRTR2_EL2 and HDFGWTR2_EL2
 unfoldable pub pmicntrStop : View → Bool → Stop
-pmicntrStop v read =
-    icntrOrder (icntrRule1 v) (icntrRule2 v)
-    (icntrRule3 v (cond read (v .settings .hdfgrtr .npmicntr) (v .settings .hdfgwtr .npmicntr)))
-    (rule4 v)
-    (icntrRule5 v)
-    (rule6 v)
-    (stopAtEl3 v)
+pmicntrStop v read = icntrOrder v (cond read (v .settings .hdfgrtr .npmicntr) (v .settings .hdfgwtr .npmicntr))

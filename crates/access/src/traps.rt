@@ -1,0 +1,173 @@
+// The order of traps (01, "Order of traps"): each rule's test, and the first that applies.
+ghost use mathlib.Core.Path.{_≡_};
+ghost use mathlib.Core.Bool.{cond};
+ghost use Rattle.rules.specs.Traps.{disabledTrap, stopAtEl3, firstOfSix, counterOrder, pmevcntrStop, pmswincStop, firstOfIcntr, icntrOrder, pmicntrStop};
+use answer::Level;
+use rules::Stop;
+use state::View;
+
+// a where the test holds, else b.
+fn select(test: bool, a: bool, b: bool) -> bool
+    ensures { λ r. ⌜ r ≡ cond test a b ⌝ }
+{
+    if test { a } else { b }
+}
+
+// Rule 2's target.
+fn disabled_trap(v: View) -> Stop
+    ensures { λ r. ⌜ r ≡ disabledTrap v ⌝ }
+{
+    if v.settings.execution.el2enabled & v.settings.hcr.tge {
+        return Stop::Trap(Level::El2);
+    }
+    Stop::Trap(Level::El1)
+}
+
+// A stop at EL3.
+fn stop_at_el3(v: View) -> Stop
+    ensures { λ r. ⌜ r ≡ stopAtEl3 v ⌝ }
+{
+    if v.settings.execution.halted & v.settings.execution.sdd {
+        return Stop::Undef;
+    }
+    Stop::Trap(Level::El3)
+}
+
+// PMEVCNTR and PMSWINC: the first rule that applies.
+fn first_of_six(
+    r1: bool,
+    r2: bool,
+    r3: bool,
+    r4: bool,
+    r5: bool,
+    r6: bool,
+    disabled: Stop,
+    el3: Stop,
+) -> Stop
+    ensures { λ r. ⌜ r ≡ firstOfSix r1 r2 r3 r4 r5 r6 disabled el3 ⌝ }
+{
+    if r1 {
+        return Stop::Undef;
+    }
+    if r2 {
+        return disabled;
+    }
+    if r3 {
+        return Stop::Trap(Level::El2);
+    }
+    if r4 {
+        return Stop::Trap(Level::El2);
+    }
+    if r5 {
+        return Stop::Trap(Level::El2);
+    }
+    if r6 {
+        return el3;
+    }
+    Stop::Pass
+}
+
+// The order for PMEVCNTR and PMSWINC, from whether PMUSERENR disables the access at EL0, the fine-grained bit, and whether
+// m >= HPMN.
+fn counter_order(v: View, disabled: bool, trap_bit: bool, above: bool) -> Stop
+    ensures { λ r. ⌜ r ≡ counterOrder v disabled «trap_bit» above ⌝ }
+{
+    let level = v.level;
+    let s = v.settings;
+    let el2 = s.execution.el2enabled;
+    let el3 = s.features.el3;
+    let stopped = s.execution.halted & s.execution.sdd;
+    first_of_six(
+        el3 & (level <= 2) & stopped & s.features.el3prio & s.mdcr3.tpm,
+        (level == 0) & disabled,
+        el2
+            & (level <= 1)
+            & !((level == 0) & s.hcr.e2h & s.hcr.tge)
+            & s.features.fgt
+            & (!el3 | s.scr.fgten)
+            & trap_bit,
+        el2 & (level <= 1) & s.mdcr2.tpm,
+        el2 & (level <= 1) & above,
+        el3 & (level <= 2) & s.mdcr3.tpm,
+        disabled_trap(v),
+        stop_at_el3(v),
+    )
+}
+
+// The order of traps for PMEVCNTR<m>.
+pub fn pmevcntr_stop(v: View, read: bool, m: u64) -> Stop
+    ensures { λ r. ⌜ r ≡ pmevcntrStop v read m ⌝ }
+{
+    let s = v.settings;
+    let disabled = select(read, !s.pmuserenr.en & !s.pmuserenr.er, !s.pmuserenr.en);
+    let trap_bit = select(read, s.hdfgrtr.pmevcntrn, s.hdfgwtr.pmevcntrn);
+    counter_order(v, disabled, trap_bit, s.mdcr2.hpmn <= m)
+}
+
+// The order of traps for PMSWINC.
+pub fn pmswinc_stop(v: View) -> Stop
+    ensures { λ r. ⌜ r ≡ pmswincStop v ⌝ }
+{
+    let s = v.settings;
+    counter_order(
+        v,
+        !s.pmuserenr.en & !s.pmuserenr.sw,
+        s.hdfgwtr.pmswinc,
+        false,
+    )
+}
+
+// PMICNTR: the first rule that applies.
+fn first_of_icntr(r1: bool, r2: bool, r3: bool, r4: bool, r5: bool, r6: bool, el3: Stop) -> Stop
+    ensures { λ r. ⌜ r ≡ firstOfIcntr r1 r2 r3 r4 r5 r6 el3 ⌝ }
+{
+    if r1 {
+        return Stop::Undef;
+    }
+    if r2 {
+        return Stop::Trap(Level::El2);
+    }
+    if r3 {
+        return Stop::Trap(Level::El2);
+    }
+    if r4 {
+        return Stop::Trap(Level::El2);
+    }
+    if r5 {
+        return el3;
+    }
+    if r6 {
+        return el3;
+    }
+    Stop::Pass
+}
+
+// The order for PMICNTR, from the fine-grained bit of the direction, by which the access is allowed.
+fn icntr_order(v: View, allowed: bool) -> Stop
+    ensures { λ r. ⌜ r ≡ icntrOrder v allowed ⌝ }
+{
+    let level = v.level;
+    let s = v.settings;
+    let el2 = s.execution.el2enabled;
+    let el3 = s.features.el3;
+    let stopped = s.execution.halted & s.execution.sdd;
+    let guest = !((level == 0) & s.hcr.e2h & s.hcr.tge);
+    first_of_icntr(
+        el3 & (level <= 2) & stopped & s.features.el3prio & (!s.mdcr3.enpm2 | s.mdcr3.tpm),
+        el2 & (level <= 1) & guest & s.features.fgt2 & el3 & !s.scr.fgten2,
+        el2 & (level <= 1) & guest & s.features.fgt2 & !allowed,
+        el2 & (level <= 1) & s.mdcr2.tpm,
+        el3 & (level <= 2) & !s.mdcr3.enpm2,
+        el3 & (level <= 2) & s.mdcr3.tpm,
+        stop_at_el3(v),
+    )
+}
+
+// The order of traps for PMICNTR.
+pub fn pmicntr_stop(v: View, read: bool) -> Stop
+    ensures { λ r. ⌜ r ≡ pmicntrStop v read ⌝ }
+{
+    let s = v.settings;
+    let allowed = select(read, s.hdfgrtr.npmicntr, s.hdfgwtr.npmicntr);
+    icntr_order(v, allowed)
+}
