@@ -1,6 +1,7 @@
 -- What is proved of the rules.
 pub mod Worked
 pub mod Unchanged
+pub mod Decided
 pub mod Bits
 pub mod Touches
 pub mod Places

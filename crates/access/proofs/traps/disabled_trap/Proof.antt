@@ -1,15 +1,11 @@
 use Rattle.rules.specs.Traps.{disabledTrap}
 use Rattle.access.proofs.traps.disabled_trap.Statement.{statement}
 use Rattle.access.proofs.traps.disabled_trap.Tie as tie
-use Rattle.access.proofs.traps.disabled_trap.Reads as reads
-use Rattle.access.proofs.traps.disabled_trap.Lts as lts
 
--- src/traps.rt:21:9
 returns : tie.Need-returns
 unfolding disabledTrap
 returns c = simp (c .if1 .taken)
 
--- src/traps.rt:17:1
 returns-2 : tie.Need-returns-2
 unfolding disabledTrap
 returns-2 c = simp (c .if1 .left)

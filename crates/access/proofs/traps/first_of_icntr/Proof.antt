@@ -1,41 +1,31 @@
 use Rattle.rules.specs.Traps.{firstOfIcntr}
-use borrow.Author.Needs.{needs}
 use Rattle.access.proofs.traps.first_of_icntr.Statement.{statement}
 use Rattle.access.proofs.traps.first_of_icntr.Tie as tie
-use Rattle.access.proofs.traps.first_of_icntr.Reads as reads
-use Rattle.access.proofs.traps.first_of_icntr.Lts as lts
 
--- src/traps.rt:125:9
 returns : tie.Need-returns
 unfolding firstOfIcntr
 returns c = simp (c .if1 .taken)
 
--- src/traps.rt:128:9
 returns-2 : tie.Need-returns-2
 unfolding firstOfIcntr
 returns-2 c = simp (c .before .if1 .left, c .if2 .taken)
 
--- src/traps.rt:131:9
 returns-3 : tie.Need-returns-3
 unfolding firstOfIcntr
 returns-3 c = simp (c .before .before .if1 .left, c .before .if2 .left, c .if3 .taken)
 
--- src/traps.rt:134:9
 returns-4 : tie.Need-returns-4
 unfolding firstOfIcntr
 returns-4 c = simp (c .before .before .before .if1 .left, c .before .before .if2 .left, c .before .if3 .left, c .if4 .taken)
 
--- src/traps.rt:137:9
 returns-5 : tie.Need-returns-5
 unfolding firstOfIcntr
 returns-5 c = simp (c .before .before .before .before .if1 .left, c .before .before .before .if2 .left, c .before .before .if3 .left, c .before .if4 .left, c .if5 .taken)
 
--- src/traps.rt:140:9
 returns-6 : tie.Need-returns-6
 unfolding firstOfIcntr
 returns-6 c = simp (c .before .before .before .before .before .if1 .left, c .before .before .before .before .if2 .left, c .before .before .before .if3 .left, c .before .before .if4 .left, c .before .if5 .left, c .if6 .taken)
 
--- src/traps.rt:121:1
 returns-7 : tie.Need-returns-7
 unfolding firstOfIcntr
 returns-7 c = simp (c .before .before .before .before .before .if1 .left, c .before .before .before .before .if2 .left, c .before .before .before .if3 .left, c .before .before .if4 .left, c .before .if5 .left, c .if6 .left)

@@ -1,41 +1,31 @@
 use Rattle.rules.specs.Traps.{firstOfSix}
-use borrow.Author.Needs.{needs}
 use Rattle.access.proofs.traps.first_of_six.Statement.{statement}
 use Rattle.access.proofs.traps.first_of_six.Tie as tie
-use Rattle.access.proofs.traps.first_of_six.Reads as reads
-use Rattle.access.proofs.traps.first_of_six.Lts as lts
 
--- src/traps.rt:50:9
 returns : tie.Need-returns
 unfolding firstOfSix
 returns c = simp (c .if1 .taken)
 
--- src/traps.rt:53:9
 returns-2 : tie.Need-returns-2
 unfolding firstOfSix
 returns-2 c = simp (c .before .if1 .left, c .if2 .taken)
 
--- src/traps.rt:56:9
 returns-3 : tie.Need-returns-3
 unfolding firstOfSix
 returns-3 c = simp (c .before .before .if1 .left, c .before .if2 .left, c .if3 .taken)
 
--- src/traps.rt:59:9
 returns-4 : tie.Need-returns-4
 unfolding firstOfSix
 returns-4 c = simp (c .before .before .before .if1 .left, c .before .before .if2 .left, c .before .if3 .left, c .if4 .taken)
 
--- src/traps.rt:62:9
 returns-5 : tie.Need-returns-5
 unfolding firstOfSix
 returns-5 c = simp (c .before .before .before .before .if1 .left, c .before .before .before .if2 .left, c .before .before .if3 .left, c .before .if4 .left, c .if5 .taken)
 
--- src/traps.rt:65:9
 returns-6 : tie.Need-returns-6
 unfolding firstOfSix
 returns-6 c = simp (c .before .before .before .before .before .if1 .left, c .before .before .before .before .if2 .left, c .before .before .before .if3 .left, c .before .before .if4 .left, c .before .if5 .left, c .if6 .taken)
 
--- src/traps.rt:37:1
 returns-7 : tie.Need-returns-7
 unfolding firstOfSix
 returns-7 c = simp (c .before .before .before .before .before .if1 .left, c .before .before .before .before .if2 .left, c .before .before .before .if3 .left, c .before .before .if4 .left, c .before .if5 .left, c .if6 .left)

@@ -1,15 +1,11 @@
 use Rattle.rules.specs.Traps.{stopAtEl3}
 use Rattle.access.proofs.traps.stop_at_el3.Statement.{statement}
 use Rattle.access.proofs.traps.stop_at_el3.Tie as tie
-use Rattle.access.proofs.traps.stop_at_el3.Reads as reads
-use Rattle.access.proofs.traps.stop_at_el3.Lts as lts
 
--- src/traps.rt:31:9
 returns : tie.Need-returns
 unfolding stopAtEl3
 returns c = simp (c .if1 .taken)
 
--- src/traps.rt:27:1
 returns-2 : tie.Need-returns-2
 unfolding stopAtEl3
 returns-2 c = simp (c .if1 .left)
