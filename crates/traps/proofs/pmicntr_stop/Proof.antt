@@ -1,0 +1,11 @@
+use mathlib.Core.Path.{sym}
+use Rattle.rules.specs.Traps.{pmicntrStop}
+use Rattle.traps.proofs.pmicntr_stop.Statement.{statement}
+use Rattle.traps.proofs.pmicntr_stop.Tie as tie
+
+returns : tie.Need-returns
+unfolding pmicntrStop
+returns c = simp (sym (c .before .select .ensures)) (c .icntr-order .ensures)
+
+pub pmicntr-stop-spec : {M : Type 1} → statement M
+pmicntr-stop-spec = tie.close (tie.spec (λ c κs. tt) (λ c κs. tt) returns)
