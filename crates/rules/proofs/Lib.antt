@@ -5,6 +5,8 @@ pub mod Decided
 pub mod Bits
 pub mod Touches
 pub mod Places
+pub mod Sweep
+pub mod Width
 pub mod Applied
 pub mod Hidden
 pub mod Alike
