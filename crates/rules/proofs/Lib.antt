@@ -3,6 +3,8 @@ pub mod Worked
 pub mod Unchanged
 pub mod Decided
 pub mod Bits
+pub mod FromBits
+pub mod Enables
 pub mod Touches
 pub mod Places
 pub mod Sweep

@@ -36,19 +36,23 @@ unreachable s =
 abbrev pub externalWidth : Settings → ℕ
 externalWidth s = cond (s .features .ext64 || s .features .p9 || s .features .icntr) 64 32
 
--- "enable bits m < N, bit 31, and bit 32 if ICNTR", as far as the register is wide
+-- "enable bits m < N" of the event counters 0 to 30, "bit 31, and bit 32 if ICNTR", as far as the register is wide
 abbrev pub shown : Settings → ℕ → Bool
 shown s m =
-    (ltb m (s .features .n) || eqb m 31 || (eqb m 32 && s .features .icntr)) && ltb m (externalWidth s)
+    ((ltb m 31 && ltb m (s .features .n)) || eqb m 31 || (eqb m 32 && s .features .icntr)) && ltb m (externalWidth s)
 
 -- the number below 2^k whose bit m is f m
-abbrev pub fromBits : ℕ → (ℕ → Bool) → ℕ
+unfoldable pub fromBits : ℕ → (ℕ → Bool) → ℕ
 fromBits zero f = 0
 fromBits (suc k) f = fromBits k f + cond (f k) (2 ^ k) 0
 
+-- the bits of x that the register shows
+unfoldable pub shownOf : Settings → ℕ → ℕ
+shownOf s x = fromBits 33 (λ m. shown s m && bit m x)
+
 -- "A read shows enable bits .."
-unfoldable pub enablesRead : Settings → ℕ
-enablesRead s = fromBits 33 (λ m. shown s m && bit m (s .cnten))
+abbrev pub enablesRead : Settings → ℕ
+enablesRead s = shownOf s (s .cnten)
 
 -- "A write sets the 1 bits among these and clears none."
 unfoldable pub enablesWritten : Settings → ℕ → ℕ

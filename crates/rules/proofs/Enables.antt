@@ -1,0 +1,97 @@
+-- Laws of the counter enables that PMCNTENSET_EL0 shows and sets, as sums and a union.
+use Prim.Native.Nat.{ℕ, zero, suc, _+_, _*_, _/_, _%_, _^_, _<_, _≤_}
+use mathlib.Core.Bool.{Bool, true, false, cond, _&&_, _||_}
+use mathlib.Core.Path.{_≡_, refl, sym, _∙_, ap, ap₂}
+use native.Mathlib.Nat.{mod-eq-of-lt, add-zero}
+use native.Mathlib.Omega.{arith}
+use borrow.Author.Tests.{lt-ltb, le-ltb, ne-eqb, ltb-true, ltb-false}
+use lib.Bits.{bitOr}
+use lib.Dec.{eqb, ltb}
+use Rattle.machine.specs.declared.Settings.{Settings}
+use Rattle.rules.specs.External.{externalWidth, shown, fromBits, shownOf, enablesWritten}
+use Rattle.rules.specs.Permitted.{bit}
+use Rattle.rules.proofs.FromBits.{digit, fromBits-suc, fromBits-ext, fromBits-mod, bit-fromBits, bit-or}
+
+-- the bits of x below n among the first k
+pub low-all : (n x k : ℕ) → k ≤ n → fromBits k (λ m. ltb m n && bit m x) ≡ x % 2 ^ k
+low-all n x k h =
+    fromBits-ext k (λ m. ltb m n && bit m x) (λ m. bit m x) (λ m l. rw (lt-ltb m n (omega arith))) ∙ fromBits-mod k x
+
+pub low-some : (n x k : ℕ) → n ≤ k → fromBits k (λ m. ltb m n && bit m x) ≡ x % 2 ^ n
+unfolding fromBits
+low-some n x zero h = let e : n ≡ 0 = omega arith in rw e (fromBits-mod 0 x)
+low-some n x (suc k) h = go (low-some n x k) (ltb k n) refl
+  where
+    go : (n ≤ k → fromBits k (λ m. ltb m n && bit m x) ≡ x % 2 ^ n) → (b : Bool) → ltb k n ≡ b
+        → fromBits (suc k) (λ m. ltb m n && bit m x) ≡ x % 2 ^ n
+    go r true t = let e : n ≡ suc k = omega (arith, ltb-true k n t) in low-all n x (suc k) (omega arith) ∙ ap (λ j. x % 2 ^ j) (sym e)
+    go r false t = rw t (add-zero (fromBits k (λ m. ltb m n && bit m x)) ∙ r (ltb-false k n t))
+
+-- the register is at least 32 bits wide, and 64 with ICNTR
+at-least-32 : (m : ℕ) → m < 32 → (b : Bool) → ltb m (cond b 64 32) ≡ true
+at-least-32 m h true = lt-ltb m 64 (omega arith)
+at-least-32 m h false = lt-ltb m 32 h
+
+or-true : (a : Bool) → a || true ≡ true
+or-true true = refl
+or-true false = refl
+
+or-false : (a : Bool) → a || false ≡ a
+or-false true = refl
+or-false false = refl
+
+module _ (s : Settings) where
+  wide : (m : ℕ) → m < 32 → ltb m (externalWidth s) ≡ true
+  wide m h = at-least-32 m h (s .features .ext64 || s .features .p9 || s .features .icntr)
+
+  -- which bits are shown: below 31 those of the event counters below N, then bit 31, then bit 32 with ICNTR
+  shown-low : (m : ℕ) → m < 31 → shown s m ≡ ltb m (s .features .n)
+  shown-low m h =
+      rw (wide m (omega arith), lt-ltb m 31 h, ne-eqb m 31 (omega arith), ne-eqb m 32 (omega arith)) (tail (ltb m (s .features .n)))
+    where
+      tail : (b : Bool) → (b || false || false) && true ≡ b
+      tail true = refl
+      tail false = refl
+
+  shown-31 : shown s 31 ≡ true
+  shown-31 = wide 31 (omega arith)
+
+  shown-32 : shown s 32 ≡ s .features .icntr
+  shown-32 = go (s .features .icntr)
+    where
+      go : (b : Bool) → b && ltb 32 (cond (s .features .ext64 || s .features .p9 || b) 64 32) ≡ b
+      go true = rw (or-true (s .features .ext64 || s .features .p9))
+      go false = refl
+
+  -- what is shown, as a sum
+  pub shown-sum :
+      (x : ℕ)
+      → shownOf s x
+      ≡ fromBits 31 (λ m. ltb m (s .features .n) && bit m x)
+      + (x / 2 ^ 31 % 2) * 2 ^ 31
+      + cond (s .features .icntr) ((x / 2 ^ 32 % 2) * 2 ^ 32) 0
+  unfolding shownOf
+  shown-sum x =
+      fromBits-suc 32 (λ m. shown s m && bit m x)
+      ∙ ap₂ _+_
+      (fromBits-suc 31 (λ m. shown s m && bit m x)
+      ∙ ap₂ _+_
+      (fromBits-ext 31 (λ m. shown s m && bit m x) (λ m. ltb m (s .features .n) && bit m x)
+      (λ m h. ap (λ b. b && bit m x) (shown-low m h)))
+      (ap (λ b. cond (b && bit 31 x) (2 ^ 31) 0) shown-31 ∙ digit 31 x))
+      (ap (λ b. cond (b && bit 32 x) (2 ^ 32) 0) shown-32 ∙ last (s .features .icntr))
+    where
+      last : (b : Bool) → cond (b && bit 32 x) (2 ^ 32) 0 ≡ cond b ((x / 2 ^ 32 % 2) * 2 ^ 32) 0
+      last true = digit 32 x
+      last false = refl
+
+  -- what is set, as a union
+  pub written-union : (x : ℕ) → enablesWritten s x ≡ bitOr (s .cnten) (shownOf s x) % 2 ^ 33
+  unfolding enablesWritten shownOf
+  written-union x =
+      fromBits-ext 33 (λ m. bit m (s .cnten) || (shown s m && bit m x)) (λ m. bit m (bitOr (s .cnten) (fromBits 33 (λ m. shown s m && bit m x))))
+      (λ m h.
+      sym
+      (bit-or m (s .cnten) (fromBits 33 (λ m. shown s m && bit m x))
+      ∙ ap (λ b. bit m (s .cnten) || b) (bit-fromBits 33 (λ m. shown s m && bit m x) m h)))
+      ∙ fromBits-mod 33 (bitOr (s .cnten) (fromBits 33 (λ m. shown s m && bit m x)))
