@@ -1,2 +1,2 @@
 -- The laws of the crate `access`.
-pub mod Increment
+pub mod Turns

@@ -3,7 +3,7 @@ use mathlib.Core.Path.{_≡_, refl, sym, _∙_}
 use native.Mathlib.Omega.{arith}
 use Rattle.rules.specs.Step.{incremented}
 use Rattle.rules.proofs.Sweep.{sweep}
-use Rattle.access.proofs.Increment.{half, turn, done-early, done-all}
+use Rattle.access.proofs.Turns.{half, turn, done-early, done-all}
 use Rattle.access.proofs.counters.increment.Statement.{statement}
 use Rattle.access.proofs.counters.increment.Tie as tie
 
