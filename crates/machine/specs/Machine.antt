@@ -76,7 +76,7 @@ withSettings s m =
     }
 
 -- the record with these counter enables
-abbrev pub withCnten : ℕ → Machine → Machine
+unfoldable pub withCnten : ℕ → Machine → Machine
 withCnten e m =
     withSettings
     (record {

@@ -58,30 +58,36 @@ enablesRead s = shownOf s (s .cnten)
 unfoldable pub enablesWritten : Settings → ℕ → ℕ
 enablesWritten s x = fromBits 33 (λ m. bit m (s .cnten) || (shown s m && bit m x))
 
--- an external read. "Other offsets answer `other`, tested before all of this."
-unfoldable pub externalRead : ℕ → Machine → Outcome
-externalRead offset r =
-    unlessRefusedBy (verdictOf (viewOf r)) r
-    (cond (not (eqb offset pmcntenset)) (says Answer.Other r)
+-- an external read of a consistent record. "Other offsets answer `other`, tested before all of this."
+unfoldable pub readOf : ℕ → Machine → Outcome
+readOf offset r =
+    cond (not (eqb offset pmcntenset)) (says Answer.Other r)
     (cond (not (present (r .settings))) (says (Answer.Value 0) r)
     (cond (unreachable (r .settings)) (says Answer.Error r)
-    (says (Answer.Value (enablesRead (r .settings))) r))))
+    (says (Answer.Value (enablesRead (r .settings))) r)))
 
--- an external write. "Software lock: writes are ignored."
-unfoldable pub externalWrite : ℕ → ℕ → Machine → Outcome
-externalWrite offset x r =
-    unlessRefusedBy (verdictOf (viewOf r)) r
-    (cond (not (eqb offset pmcntenset)) (says Answer.Other r)
+unfoldable pub externalRead : ℕ → Machine → Outcome
+externalRead offset r = unlessRefusedBy (verdictOf (viewOf r)) r (readOf offset r)
+
+-- an external write to a consistent record. "Software lock: writes are ignored."
+unfoldable pub writeOf : ℕ → ℕ → Machine → Outcome
+writeOf offset x r =
+    cond (not (eqb offset pmcntenset)) (says Answer.Other r)
     (cond (not (present (r .settings))) (done r)
     (cond (unreachable (r .settings)) (says Answer.Error r)
     (cond (r .settings .external .softwarelock) (done r)
-    (done (withCnten (enablesWritten (r .settings) x) r))))))
+    (done (withCnten (enablesWritten (r .settings) x) r)))))
+
+unfoldable pub externalWrite : ℕ → ℕ → Machine → Outcome
+externalWrite offset x r = unlessRefusedBy (verdictOf (viewOf r)) r (writeOf offset x r)
 
 -- "A tick is one executed instruction: with ICNTR, enable bit 32 set and counting not prohibited, PMICNTR adds 1, wrapping at
 -- 2^64."
-unfoldable pub tick : Bool → Machine → Outcome
-tick prohibited r =
-    unlessRefusedBy (verdictOf (viewOf r)) r
-    (cond (r .settings .features .icntr && bit 32 (r .settings .cnten) && not prohibited)
+unfoldable pub tickOf : Bool → Machine → Outcome
+tickOf prohibited r =
+    cond (r .settings .features .icntr && bit 32 (r .settings .cnten) && not prohibited)
     (done (withInstructions (plusOne 64 (r .instructions)) r))
-    (done r))
+    (done r)
+
+unfoldable pub tick : Bool → Machine → Outcome
+tick prohibited r = unlessRefusedBy (verdictOf (viewOf r)) r (tickOf prohibited r)

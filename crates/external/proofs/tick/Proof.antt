@@ -1,0 +1,26 @@
+use mathlib.Core.Path.{sym, _∙_, ap}
+use Rattle.state.specs.State.{verdictOf}
+use Rattle.rules.specs.External.{tick}
+use borrow.Author.Needs.{needs}
+use Rattle.external.proofs.tick.Statement.{statement}
+use Rattle.external.proofs.tick.Tie as tie
+
+returns : tie.Need-returns
+unfolding tick
+returns c = simp (sym (c .before .before .before .verdict-of .ensures ∙ ap verdictOf (c .before .before .before .before .view-of .ensures)) ∙ c .before .n .given .1)
+
+returns-2 : tie.Need-returns-2
+unfolding tick
+returns-2 c = simp (sym (c .before .before .before .verdict-of .ensures ∙ ap verdictOf (c .before .before .before .before .view-of .ensures)) ∙ c .before .enum-told .given .1) (c .tick-of .ensures)
+
+pub tick-spec : {M : Type 1} → statement M
+tick-spec =
+    tie.close
+    (tie.spec
+    (λ c κs. tt)
+    (λ c κs. tt)
+    (λ c. search needs)
+    (λ c. search needs)
+    (λ c κs. tt)
+    returns
+    returns-2)
