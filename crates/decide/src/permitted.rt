@@ -50,15 +50,15 @@ pub fn pmicntr_access(v: View, w: u32, x: u64) -> Decision
     ensures { λ r. ⌜ r ≡ pmicntrAccess v w x ⌝ }
 {
     let s = v.settings;
-    let hidden = (v.level == 0) & !s.pmuacr.f0;
+    let closed = (v.level == 0) & !s.pmuacr.f0;
     if word::is_read(w) {
         let rt = word::rt(w);
-        if hidden {
+        if closed {
             return Decision::Says(Answer::Mrs { value: 0, rt: rt });
         }
         return Decision::ReadInstructions { rt: rt };
     }
-    if hidden | ((v.level == 0) & s.pmuserenr.ir) {
+    if closed | ((v.level == 0) & s.pmuserenr.ir) {
         return Decision::Says(Answer::Ok);
     }
     Decision::WriteInstructions {

@@ -118,25 +118,25 @@ pub fn pmswinc_stop(v: View) -> Stop
 }
 
 // PMICNTR: the first rule that applies.
-fn first_of_icntr(r1: bool, r2: bool, r3: bool, r4: bool, r5: bool, r6: bool, el3: Stop) -> Stop
-    ensures { λ r. ⌜ r ≡ firstOfIcntr r1 r2 r3 r4 r5 r6 el3 ⌝ }
+fn first_of_icntr(i1: bool, i2: bool, i3: bool, i4: bool, i5: bool, i6: bool, el3: Stop) -> Stop
+    ensures { λ r. ⌜ r ≡ firstOfIcntr i1 i2 i3 i4 i5 i6 el3 ⌝ }
 {
-    if r1 {
+    if i1 {
         return Stop::Undef;
     }
-    if r2 {
+    if i2 {
         return Stop::Trap(Level::El2);
     }
-    if r3 {
+    if i3 {
         return Stop::Trap(Level::El2);
     }
-    if r4 {
+    if i4 {
         return Stop::Trap(Level::El2);
     }
-    if r5 {
+    if i5 {
         return el3;
     }
-    if r6 {
+    if i6 {
         return el3;
     }
     Stop::Pass
