@@ -1,5 +1,5 @@
 -- Text as lists of bytes: a fixed word, a number in decimal, and the low bits of a number in uppercase hexadecimal.
-use Prim.Native.Nat.{ℕ, zero, suc, _+_, _/_, _%_, _^_}
+use Prim.Native.Nat.{ℕ, zero, suc, _+_, _*_, _/_, _%_, _^_}
 use Prim.Native.Char.{code}
 use Prim.Native.String.{String, [] as empty, _∷_ as _then_}
 use mathlib.Core.Bool.{cond}
@@ -30,7 +30,7 @@ decimal n = decimalDigits 20 n
 abbrev pub hexDigit : ℕ → ℕ
 hexDigit d = cond (ltb d 10) (48 + d) (55 + d)
 
--- k uppercase hexadecimal digits of x, the highest first
+-- k uppercase hexadecimal digits of x, of four bits each, the highest first
 unfoldable pub hex : ℕ → ℕ → List ℕ
 hex zero x = []
-hex (suc k) x = hexDigit (x / 16 ^ k % 16) ∷ hex k x
+hex (suc k) x = hexDigit (x / 2 ^ (4 * k) % 16) ∷ hex k x

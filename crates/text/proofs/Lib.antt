@@ -1,0 +1,3 @@
+-- The laws of the crate `text`.
+pub mod Sets
+pub mod Digits
