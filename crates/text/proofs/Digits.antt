@@ -3,7 +3,9 @@ use Prim.Native.Nat.{ℕ, zero, suc, _+_, _-_, _*_, _/_, _%_, _^_, _<_, _≤_}
 use mathlib.Core.List.{[], _∷_}
 use mathlib.Core.Path.{_≡_, refl, sym, _∙_, ap}
 use native.Mathlib.Omega.{arith}
-use borrow.Author.Tests.{lt-ltb, le-ltb}
+use borrow.Author.Tests.{lt-ltb, le-ltb, ltb-true, ltb-false}
+use lib.Dec.{ltb, lit≤}
+use mathlib.Core.Bool.{Bool, true, false}
 use lib.ListN.{length}
 use Rattle.text.specs.Text.{decimalDigit, decimalDigits, decimal, hexDigit, hex}
 
@@ -31,6 +33,26 @@ decimal-4 n l h =
       le-ltb (n / 10 / 10) 10 (omega arith),
       lt-ltb (n / 10 / 10 / 10) 10 (omega arith),
     )
+
+-- at most four digits
+pub decimal-short : (n : ℕ) → n < 10000 → length (decimal n) ≤ 4
+decimal-short n h = go (ltb n 10) refl (ltb n 100) refl (ltb n 1000) refl
+  where
+    go :
+        (a : Bool) → ltb n 10 ≡ a → (b : Bool) → ltb n 100 ≡ b → (c : Bool) → ltb n 1000 ≡ c → length (decimal n) ≤ 4
+    go true e b f c g = rw (decimal-1 n (ltb-true n 10 e)) (lit≤ tt)
+    go false e true f c g = rw (decimal-2 n (ltb-false n 10 e) (ltb-true n 100 f)) (lit≤ tt)
+    go false e false f true g = rw (decimal-3 n (ltb-false n 100 f) (ltb-true n 1000 g)) (lit≤ tt)
+    go false e false f false g = rw (decimal-4 n (ltb-false n 1000 g) h) (lit≤ tt)
+
+-- at most three
+pub decimal-shorter : (n : ℕ) → n < 1000 → length (decimal n) ≤ 3
+decimal-shorter n h = go (ltb n 10) refl (ltb n 100) refl
+  where
+    go : (a : Bool) → ltb n 10 ≡ a → (b : Bool) → ltb n 100 ≡ b → length (decimal n) ≤ 3
+    go true e b f = rw (decimal-1 n (ltb-true n 10 e)) (lit≤ tt)
+    go false e true f = rw (decimal-2 n (ltb-false n 10 e) (ltb-true n 100 f)) (lit≤ tt)
+    go false e false f = rw (decimal-3 n (ltb-false n 100 f) h) (lit≤ tt)
 
 pub length-hex : (k x : ℕ) → length (hex k x) ≡ k
 unfolding hex

@@ -10,8 +10,8 @@ use Rattle.rules.specs.Traps.{disabledTrap, stopAtEl3, firstOfSix, counterOrder
 use Rattle.rules.specs.Permitted.{pmevcntrAccess}
 use Rattle.rules.specs.Step.{decideRegister, decide, apply, step}
 use Rattle.text.specs.Text.{bytes, decimal, hex}
-use Rattle.transcript.specs.Command.{commandOf}
-use Rattle.transcript.specs.Line.{textOf, lineOf}
+use Rattle.command.specs.Command.{commandOf}
+use Rattle.line.specs.Line.{textOf, lineOf}
 use Rattle.transcript.specs.Session.{execute, answersFrom, linesFrom, answersOf, outputOf}
 use Rattle.transcript.specs.Example.{Example, examples}
 

@@ -1,5 +1,3 @@
 -- Document 01, "Sessions": commands out of bytes, the line of an answer, and the whole output of a session.
-pub mod Command
-pub mod Line
 pub mod Session
 pub mod Example

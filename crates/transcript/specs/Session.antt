@@ -13,9 +13,9 @@ use Rattle.fields.specs.Set.{set, setLevel}
 use Rattle.machine.specs.Outcome.{says, refused}
 use Rattle.rules.specs.Step.{step}
 use Rattle.rules.specs.External.{externalRead, externalWrite, tick}
-use Rattle.transcript.specs.declared.Command.{Command}
-use Rattle.transcript.specs.Command.{commandOf, sizeAt, isLast}
-use Rattle.transcript.specs.Line.{lineOf}
+use Rattle.command.specs.declared.Command.{Command}
+use Rattle.command.specs.Command.{commandOf, sizeAt, isLast}
+use Rattle.line.specs.Line.{lineOf}
 
 -- what a command answers and does to the record. Refusal 4: "a flag operand exceeds 1"
 unfoldable pub execute : Command → Machine → Outcome

@@ -5,7 +5,7 @@ use mathlib.Core.List.{List, [], _∷_}
 use lib.Dec.{ltb, eqb}
 use lib.ListN.{length, take, drop}
 use Rattle.answer.specs.declared.Refusal.the-variants.{UnknownCommand, Truncated}
-use Rattle.transcript.specs.declared.Command.{Command}
+use Rattle.command.specs.declared.Command.{Command}
 
 -- the number that little-endian bytes hold
 abbrev pub little : List ℕ → ℕ

@@ -1,0 +1,80 @@
+use mathlib.Core.Path.{sym, _∙_, ap, ap₂}
+use native.Mathlib.Omega.{arith}
+use borrow.Author.Tests.{ne-eqb}
+use Rattle.command.specs.declared.Command.{Command}
+use Rattle.command.proofs.Operands.{operand-behind, byte-behind}
+use borrow.Author.Needs.{needs}
+use Rattle.command.proofs.command_with.Statement.{statement}
+use Rattle.command.proofs.command_with.Tie as tie
+
+shared-slice-read-t5 : tie.Need-shared-slice-read-t5
+shared-slice-read-t5 c = omega (arith, simp (c .before .match .keys1) at (c .before .before .before .pre))
+
+eight-requires : tie.Need-eight-requires
+eight-requires c κs = omega (arith, simp (c .before .match .keys1) at (c .before .before .before .pre))
+
+shared-slice-read-t8 : tie.Need-shared-slice-read-t8
+shared-slice-read-t8 c = omega (arith, simp (c .before .match .keys2) at (c .before .before .before .pre))
+
+four-requires : tie.Need-four-requires
+four-requires c κs = omega (arith, simp (c .match .keys3) at (c .before .before .pre))
+
+eight-requires-2 : tie.Need-eight-requires-2
+eight-requires-2 c κs = omega (arith, simp (c .before .match .keys3) at (c .before .before .before .pre))
+
+two-requires : tie.Need-two-requires
+two-requires c κs = omega (arith, simp (c .match .keys4) at (c .before .before .pre))
+
+two-requires-2 : tie.Need-two-requires-2
+two-requires-2 c κs = omega (arith, simp (c .match .keys5) at (c .before .before .pre))
+
+eight-requires-3 : tie.Need-eight-requires-3
+eight-requires-3 c κs = omega (arith, simp (c .before .match .keys5) at (c .before .before .before .pre))
+
+shared-slice-read-t18 : tie.Need-shared-slice-read-t18
+shared-slice-read-t18 c = omega (arith, simp (c .before .match .keys6) at (c .before .before .before .pre))
+
+returns : tie.Need-returns
+returns c = simp (c .before .before .match .keys1) (ap₂ Command.Set (byte-behind (c .before .before .before .before .args .t .now) (omega (arith, simp (c .before .before .match .keys1) at (c .before .before .before .before .pre)))) (c .eight .ensures ∙ sym (operand-behind (c .before .before .before .before .args .t .now) 1 8)))
+
+returns-2 : tie.Need-returns-2
+returns-2 c = simp (c .before .match .keys2) (ap Command.Level (byte-behind (c .before .before .before .args .t .now) (omega (arith, simp (c .before .match .keys2) at (c .before .before .before .pre)))))
+
+returns-3 : tie.Need-returns-3
+returns-3 c = simp (c .before .before .match .keys3) (ap₂ Command.Access (c .before .four .ensures .0 ∙ sym (operand-behind (c .before .before .before .before .args .t .now) 0 4)) (c .eight2 .ensures ∙ sym (operand-behind (c .before .before .before .before .args .t .now) 4 8)))
+
+returns-4 : tie.Need-returns-4
+returns-4 c = simp (c .before .match .keys4) (ap Command.Read (c .two .ensures .0 ∙ sym (operand-behind (c .before .before .before .args .t .now) 0 2)))
+
+returns-5 : tie.Need-returns-5
+returns-5 c = simp (c .before .before .match .keys5) (ap₂ Command.Write (c .before .two2 .ensures .0 ∙ sym (operand-behind (c .before .before .before .before .args .t .now) 0 2)) (c .eight3 .ensures ∙ sym (operand-behind (c .before .before .before .before .args .t .now) 2 8)))
+
+returns-6 : tie.Need-returns-6
+returns-6 c = simp (c .before .match .keys6) (ap Command.Tick (byte-behind (c .before .before .before .args .t .now) (omega (arith, simp (c .before .match .keys6) at (c .before .before .before .pre)))))
+
+returns-7 : tie.Need-returns-7
+returns-7 c = simp (ne-eqb _ _ (c .match .rest .0 .0 .0 .0 .0 .1), ne-eqb _ _ (c .match .rest .0 .0 .0 .0 .1), ne-eqb _ _ (c .match .rest .0 .0 .0 .1), ne-eqb _ _ (c .match .rest .0 .0 .1), ne-eqb _ _ (c .match .rest .0 .1), ne-eqb _ _ (c .match .rest .1))
+
+pub command-with-spec : {M : Type 1} → statement M
+command-with-spec =
+    tie.close
+    (tie.spec
+    shared-slice-read-t5
+    eight-requires
+    shared-slice-read-t8
+    four-requires
+    (λ c. search needs)
+    eight-requires-2
+    two-requires
+    (λ c. search needs)
+    two-requires-2
+    (λ c. search needs)
+    eight-requires-3
+    shared-slice-read-t18
+    returns
+    returns-2
+    returns-3
+    returns-4
+    returns-5
+    returns-6
+    returns-7)

@@ -1,0 +1,11 @@
+use native.Mathlib.Omega.{arith}
+use Rattle.command.proofs.Operands.{operand-split}
+use borrow.Author.Needs.{needs}
+use Rattle.command.proofs.four.Statement.{statement}
+use Rattle.command.proofs.four.Tie as tie
+
+returns : tie.Need-returns
+returns c = (omega (arith, c .before .two .ensures .0, c .two2 .ensures .0, operand-split (c .before .before .before .args .s .now) (c .before .before .before .args .at) 2 2 (omega arith)), omega (arith, c .before .two .ensures .1, c .two2 .ensures .1))
+
+pub four-spec : {M : Type 1} → statement M
+four-spec = tie.close (tie.spec (λ c κs. search needs) (λ c. search needs) (λ c κs. search needs) (λ c. search needs) (λ c. search needs) returns)

@@ -1,0 +1,107 @@
+// A session's bytes as commands: the command that they begin with, with its little-endian operands, or why there is none.
+ghost use mathlib.Core.Path.{_≡_};
+ghost use Prim.Native.Nat.{_+_, _≤_, _<_, _^_};
+ghost use lib.ListN.{length, drop};
+ghost use Rattle.command.specs.Command.{operand, operandBytes, commandWith, commandOf};
+use answer::Refusal;
+
+// A command of a session with its operands, or why its bytes are none.
+pub enum Command {
+    End,
+    Set { field: u8, value: u64 },
+    Level { level: u8 },
+    Access { word: u32, operand: u64 },
+    Read { offset: u16 },
+    Write { offset: u16, value: u64 },
+    Tick { prohibited: u8 },
+    Bad(Refusal),
+}
+
+fn wide(x: u8) -> u64
+    ensures { λ r. ⌜ (r ≡ x) × (r < 256) ⌝ }
+{
+    x as u64
+}
+
+// The number in two bytes.
+fn two(s: &[u8], at: usize) -> u64
+    requires { ⌜ at + 2 ≤ length (now s) ⌝ }
+    ensures { λ r. ⌜ (r ≡ operand (now (s .entry)) at 2) × (r < 2 ^ 16) ⌝ }
+{
+    wide(s[at]) + 256 * wide(s[at + 1])
+}
+
+// The number in four bytes.
+fn four(s: &[u8], at: usize) -> u64
+    requires { ⌜ at + 4 ≤ length (now s) ⌝ }
+    ensures { λ r. ⌜ (r ≡ operand (now (s .entry)) at 4) × (r < 2 ^ 32) ⌝ }
+{
+    two(s, at) + 0x10000 * two(s, at + 2)
+}
+
+// The number in eight bytes.
+fn eight(s: &[u8], at: usize) -> u64
+    requires { ⌜ at + 8 ≤ length (now s) ⌝ }
+    ensures { λ r. ⌜ r ≡ operand (now (s .entry)) at 8 ⌝ }
+{
+    four(s, at) + 0x100000000 * four(s, at + 4)
+}
+
+// How many bytes of operands follow a command byte.
+pub fn operand_bytes(c: u8) -> usize
+    ensures { λ r. ⌜ r ≡ operandBytes c ⌝ }
+{
+    match c {
+        0x01 => 9,
+        0x02 => 1,
+        0x03 => 12,
+        0x04 => 2,
+        0x05 => 10,
+        0x06 => 1,
+        _ => 0,
+    }
+}
+
+// The command with byte c, whose operands are all there.
+fn command_with(c: u8, t: &[u8]) -> Command
+    requires { ⌜ 1 + operandBytes c ≤ length (now t) ⌝ }
+    ensures { λ r. ⌜ r ≡ commandWith c (drop 1 (now (t .entry))) ⌝ }
+{
+    match c {
+        0x01 => Command::Set {
+            field: t[1],
+            value: eight(t, 2),
+        },
+        0x02 => Command::Level { level: t[1] },
+        0x03 => Command::Access {
+            word: four(t, 1) as u32,
+            operand: eight(t, 5),
+        },
+        0x04 => Command::Read {
+            offset: two(t, 1) as u16,
+        },
+        0x05 => Command::Write {
+            offset: two(t, 1) as u16,
+            value: eight(t, 3),
+        },
+        0x06 => Command::Tick { prohibited: t[1] },
+        _ => Command::End,
+    }
+}
+
+// The command that the bytes begin with.
+pub fn command_of(t: &[u8]) -> Command
+    ensures { λ r. ⌜ r ≡ commandOf (now (t .entry)) ⌝ }
+{
+    if t.len() == 0 {
+        return Command::Bad(Refusal::Truncated);
+    }
+    let c = t[0];
+    if 6 < c {
+        return Command::Bad(Refusal::UnknownCommand);
+    }
+    if t.len() - 1 < operand_bytes(c) {
+        return Command::Bad(Refusal::Truncated);
+    }
+    command_with(c, t)
+}
