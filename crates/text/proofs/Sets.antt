@@ -35,6 +35,14 @@ written-on {before} {middle} {after} {a} {b} {at} {j} {k} p q =
       behind = omega (arith, p .behind, q .behind, length-append a b);
     }
 
+-- what is left to store, behind a run that is stored
+pub sets-rest :
+    {before after a : List ℕ} {at k : ℕ} → Written before at a after k → (b : List ℕ)
+    → sets before at (a ++ b) ≡ sets after k b
+sets-rest {before} {after} {a} {at} {k} p b =
+    sym (sets-suc before a b at)
+    ∙ (λ i. sets (sym (p .stored) i) (sym (p .behind) i) b)
+
 -- one to four bytes, stored one by one
 module _ (l : List ℕ) (at a b c d : ℕ) where
   pub one-byte : Written l at (a ∷ []) (set l at a) (at + 1)

@@ -1,2 +1,4 @@
 -- What is proved of sessions.
 pub mod Worked
+pub mod Sizes
+pub mod Running
