@@ -1,13 +1,13 @@
 -- Laws of decimal and hexadecimal digits: the cases of a number below 10,000, and one hexadecimal digit a turn.
 use Prim.Native.Nat.{ℕ, zero, suc, _+_, _-_, _*_, _/_, _%_, _^_, _<_, _≤_}
 use mathlib.Core.List.{[], _∷_}
-use mathlib.Core.Path.{_≡_, refl, sym, _∙_, ap}
+use mathlib.Core.Path.{_≡_, refl, ap}
 use native.Mathlib.Omega.{arith}
 use borrow.Author.Tests.{lt-ltb, le-ltb, ltb-true, ltb-false}
 use lib.Dec.{ltb, lit≤}
 use mathlib.Core.Bool.{Bool, true, false}
 use lib.ListN.{length}
-use Rattle.text.specs.Text.{decimalDigit, decimalDigits, decimal, hexDigit, hex}
+use Rattle.text.specs.Text.{decimal, hexDigit, hex}
 
 pub decimal-1 : (n : ℕ) → n < 10 → decimal n ≡ (48 + n) ∷ []
 unfolding decimal

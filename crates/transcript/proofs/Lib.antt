@@ -2,3 +2,4 @@
 pub mod Worked
 pub mod Sizes
 pub mod Running
+pub mod Whole

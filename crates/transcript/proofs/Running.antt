@@ -1,13 +1,12 @@
 -- The loop over a session's commands: what is written and what is left to write is the whole output, and there is room for it.
-use Prim.Native.Nat.{ℕ, suc, _+_, _-_, _*_, _<_, _≤_}
-use mathlib.Core.Bool.{Bool, true, false, cond}
-use mathlib.Core.List.{List, [], _∷_, _++_, append-nil}
+use Prim.Native.Nat.{ℕ, suc, _+_, _-_, _*_, _≤_}
+use mathlib.Core.Bool.{Bool, true, false}
+use mathlib.Core.List.{List, _++_, append-nil}
 use mathlib.Core.Path.{_≡_, refl, sym, _∙_, ap, subst}
 use native.Mathlib.Numerals.{add-one}
 use native.Mathlib.Omega.{arith}
 use lib.ListN.{length, take, drop, length-drop, length-append}
 use lib.Seq.{sets, take-all, drop-drop, length-sets}
-use Rattle.answer.specs.declared.Answer.{Answer}
 use Rattle.command.specs.declared.Command.{Command}
 use Rattle.command.specs.Command.{commandOf, sizeAt, isLast}
 use Rattle.line.specs.Line.{lineOf}
@@ -26,15 +25,15 @@ part-all s at = take-all (length s - at) (drop at s) (simp length-drop (omega ar
 -- the lines of the commands from a place on, where the last has a line and the others have one and go on
 module _ (k : ℕ) (t : List ℕ) (m : Machine) (p : ℕ) where
   lines-last :
-    isLast (commandOf t) ≡ true → linesFrom p (answersFrom (suc k) t m) ≡ lineOf p (execute (commandOf t) m .answer)
+      isLast (commandOf t) ≡ true → linesFrom p (answersFrom (suc k) t m) ≡ lineOf p (execute (commandOf t) m .answer)
   unfolding linesFrom answersFrom
   lines-last e = rw e (append-nil (lineOf p (execute (commandOf t) m .answer)))
 
   lines-on :
-    isLast (commandOf t) ≡ false
-    → linesFrom p (answersFrom (suc k) t m)
-    ≡ lineOf p (execute (commandOf t) m .answer)
-    ++ linesFrom (suc p) (answersFrom k (drop (sizeAt t) t) (execute (commandOf t) m .machine))
+      isLast (commandOf t) ≡ false
+      → linesFrom p (answersFrom (suc k) t m)
+      ≡ lineOf p (execute (commandOf t) m .answer)
+      ++ linesFrom (suc p) (answersFrom k (drop (sizeAt t) t) (execute (commandOf t) m .machine))
   unfolding linesFrom answersFrom
   lines-on e = rw e
 
@@ -59,16 +58,16 @@ start-left s m e =
     λ i. linesFrom 1 (answersFrom (n i) s (e i))
 
 pub running-start :
-  (s out : List ℕ) (m : Machine) → m ≡ fresh → length s ≤ 4096 → 65600 ≤ length out → Running s out out m 0 0 1
+    (s out : List ℕ) (m : Machine) → m ≡ fresh → length s ≤ 4096 → 65600 ≤ length out → Running s out out m 0 0 1
 running-start s out m e h k =
-    record
-    { within = omega arith
-    ; first = omega arith
-    ; counted = omega arith
-    ; kept = refl
-    ; room = omega arith
-    ; remains = ap (sets out 0) (sym (start-left s m e))
-    ; counts = omega (arith, ap length (start-left s m e))
+    record {
+      within = omega arith;
+      first = omega arith;
+      counted = omega arith;
+      kept = refl;
+      room = omega arith;
+      remains = ap (sets out 0) (sym (start-left s m e));
+      counts = omega (arith, ap length (start-left s m e));
     }
 
 module _ (s out₀ out : List ℕ) (m : Machine) (at end p : ℕ) (r : Running s out₀ out m at end p) where
@@ -86,15 +85,15 @@ module _ (s out₀ out : List ℕ) (m : Machine) (at end p : ℕ) (r : Running s
       ap (λ n. linesFrom p (answersFrom n (drop at s) m)) fuel ∙ lines-last (length s + 2 - (p + 1)) (drop at s) m p e
 
   pub running-end :
-    (out′ : List ℕ) (end′ : ℕ)
-    → Written out end (lineOf p (execute (commandOf (drop at s)) m .answer)) out′ end′
-    → isLast (commandOf (drop at s)) ≡ true
-    → Written out₀ 0 (linesFrom 1 (answersOf s)) out′ end′
+      (out′ : List ℕ) (end′ : ℕ)
+      → Written out end (lineOf p (execute (commandOf (drop at s)) m .answer)) out′ end′
+      → isLast (commandOf (drop at s)) ≡ true
+      → Written out₀ 0 (linesFrom 1 (answersOf s)) out′ end′
   unfolding line-here
   running-end out′ end′ w e =
-      record
-      { stored = w .stored ∙ sym (r .remains ∙ ap (sets out end) (last-left e))
-      ; behind = omega (arith, w .behind, r .counts, ap length (last-left e))
+      record {
+        stored = w .stored ∙ sym (r .remains ∙ ap (sets out end) (last-left e));
+        behind = omega (arith, w .behind, r .counts, ap length (last-left e));
       }
 
   -- what is left behind this command
@@ -107,39 +106,39 @@ module _ (s out₀ out : List ℕ) (m : Machine) (at end p : ℕ) (r : Running s
       ap (λ n. linesFrom p (answersFrom n (drop at s) m)) fuel
       ∙ lines-on (length s + 2 - (p + 1)) (drop at s) m p e
       ∙ (λ i.
-        lineOf p (execute (commandOf (drop at s)) m .answer)
-        ++ linesFrom (sym (add-one p) i)
-        (answersFrom (length s + 2 - (p + 1)) (drop-drop (sizeAt (drop at s)) at s i) (execute (commandOf (drop at s)) m .machine)))
+      lineOf p (execute (commandOf (drop at s)) m .answer)
+      ++ linesFrom (sym (add-one p) i)
+      (answersFrom (length s + 2 - (p + 1)) (drop-drop (sizeAt (drop at s)) at s i) (execute (commandOf (drop at s)) m .machine)))
 
   pub running-on :
-    (out′ : List ℕ) (end′ : ℕ)
-    → Written out end (lineOf p (execute (commandOf (drop at s)) m .answer)) out′ end′
-    → end′ ≤ end + 32
-    → isLast (commandOf (drop at s)) ≡ false
-    → Running s out₀ out′ (execute (commandOf (drop at s)) m .machine) (at + sizeAt (drop at s)) end′ (p + 1)
+      (out′ : List ℕ) (end′ : ℕ)
+      → Written out end (lineOf p (execute (commandOf (drop at s)) m .answer)) out′ end′
+      → end′ ≤ end + 32
+      → isLast (commandOf (drop at s)) ≡ false
+      → Running s out₀ out′ (execute (commandOf (drop at s)) m .machine) (at + sizeAt (drop at s)) end′ (p + 1)
   unfolding line-here next-left
   running-on out′ end′ w b e =
       let size = passes (drop at s) e in
       let whole : length (drop at s) ≡ length s - at = length-drop at s in
       let same : length out′ ≡ length out = ap length (w .stored) ∙ length-sets out end line-here in
-      record
-      { within = omega (arith, size .0, size .1, whole, r .within)
-      ; first = omega arith
-      ; counted = omega (arith, size .0, r .counted)
-      ; kept = same ∙ r .kept
-      ; room = omega (arith, size .0, size .1, whole, r .within, r .room, same, b)
-      ; remains = r .remains ∙ ap (sets out end) (on-left e) ∙ sets-rest w next-left
-      ; counts = omega (arith, r .counts, ap length (on-left e), length-append line-here next-left, w .behind)
+      record {
+        within = omega (arith, size .0, size .1, whole, r .within);
+        first = omega arith;
+        counted = omega (arith, size .0, r .counted);
+        kept = same ∙ r .kept;
+        room = omega (arith, size .0, size .1, whole, r .within, r .room, same, b);
+        remains = r .remains ∙ ap (sets out end) (on-left e) ∙ sets-rest w next-left;
+        counts = omega (arith, r .counts, ap length (on-left e), length-append line-here next-left, w .behind);
       }
 
 -- one turn of the code, by what its calls say: the command c of the rest, its size n, the outcome o, the line, and whether c is last
 module _
-  (s out₀ out : List ℕ) (m : Machine) (at end p : ℕ) (r : Running s out₀ out m at end p)
-  (c : Command) (here : c ≡ commandOf (take (length s - at) (drop at s)))
-  (n : ℕ) (size : n ≡ sizeAt (take (length s - at) (drop at s)))
-  (o : Outcome) (ran : o ≡ execute c m)
-  (out′ : List ℕ) (end′ : ℕ) (w : Written out end (lineOf p (o .answer)) out′ end′)
-  (b : Bool) (tested : b ≡ isLast c) where
+    (s out₀ out : List ℕ) (m : Machine) (at end p : ℕ) (r : Running s out₀ out m at end p)
+    (c : Command) (here : c ≡ commandOf (take (length s - at) (drop at s)))
+    (n : ℕ) (size : n ≡ sizeAt (take (length s - at) (drop at s)))
+    (o : Outcome) (ran : o ≡ execute c m)
+    (out′ : List ℕ) (end′ : ℕ) (w : Written out end (lineOf p (o .answer)) out′ end′)
+    (b : Bool) (tested : b ≡ isLast c) where
   command-here : c ≡ commandOf (drop at s)
   command-here = here ∙ ap commandOf (part-all s at)
 

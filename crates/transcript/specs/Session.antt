@@ -1,5 +1,5 @@
 -- 01, "Sessions": what each command does, the answers of a session's bytes, and the whole output.
-use Prim.Native.Nat.{ℕ, zero, suc, _+_}
+use Prim.Native.Nat.{ℕ, zero, suc, _+_, _*_}
 use mathlib.Core.Bool.{cond}
 use mathlib.Core.List.{List, [], _∷_, _++_}
 use lib.Dec.{ltb, eqb}
@@ -13,6 +13,7 @@ use Rattle.fields.specs.Set.{set, setLevel}
 use Rattle.machine.specs.Outcome.{says, refused}
 use Rattle.rules.specs.Step.{step}
 use Rattle.rules.specs.External.{externalRead, externalWrite, tick}
+use Rattle.transcript.specs.declared.Output.{Output}
 use Rattle.command.specs.declared.Command.{Command}
 use Rattle.command.specs.Command.{commandOf, sizeAt, isLast}
 use Rattle.line.specs.Line.{lineOf}
@@ -54,3 +55,16 @@ answersOf s = answersFrom (suc (length s)) s fresh
 -- the whole output. "Refusal 6 gives `0 refused 6` alone"
 unfoldable pub outputOf : List ℕ → List ℕ
 outputOf s = cond (ltb longest (length s)) (lineOf 0 (Answer.Refused SessionTooLong)) (linesFrom 1 (answersOf s))
+
+-- the bytes that any session's output fits into: a line has at most 32 bytes, and a command that is not the last takes 2 or
+-- more of at most 4,096, so that a byte of input prints 16 at most; the last line has room with some to spare
+abbrev pub room : ℕ
+room = 16 * longest + 64
+
+-- what the library function answers, given the session and the buffer: too short a buffer is named, else the output's length
+unfoldable pub resultOf : List ℕ → List ℕ → Output
+resultOf s out = cond (ltb (length out) room) Output.Short (Output.Bytes (length (outputOf s)))
+
+-- what the buffer then holds: nothing is written to one that is too short, else the output stands at its front
+unfoldable pub bufferOf : List ℕ → List ℕ → List ℕ
+bufferOf s out = cond (ltb (length out) room) out (outputOf s ++ drop (length (outputOf s)) out)

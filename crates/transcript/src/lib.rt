@@ -5,12 +5,14 @@ ghost use mathlib.Core.Path.{_≡_};
 ghost use Prim.Native.Nat.{_≤_};
 ghost use lib.ListN.{length};
 ghost use Rattle.text.specs.Written.{Written};
-ghost use Rattle.transcript.specs.Session.{linesFrom, answersOf};
+ghost use Rattle.transcript.specs.Session.{linesFrom, answersOf, resultOf, bufferOf};
+use answer::Answer;
+use answer::Refusal;
 
 // The lines of a session that is not too long, from the fresh record on.
 fn run(input: &[u8], out: &mut [u8]) -> usize
     requires { ⌜ (length (now input) ≤ 4096) × (65600 ≤ length (now out)) ⌝ }
-    ensures { λ end. ⌜ Written (now (out .entry)) 0 (linesFrom 1 (answersOf (now (input .entry)))) (now (out .exit)) end ⌝ }
+    ensures { λ end. ⌜ Written (now (out .entry)) 0 (linesFrom 1 (answersOf (now (input .entry)))) (now (out .exit)) end × (end ≤ length (now (out .entry))) ⌝ }
 {
     let mut m = machine::fresh::fresh();
     let mut at: usize = 0;
@@ -30,4 +32,24 @@ fn run(input: &[u8], out: &mut [u8]) -> usize
         at += size;
         position += 1;
     }
+}
+
+// What became of a session: the output buffer is too short for what a session can print and was left alone, or so many bytes of
+// it hold the output.
+pub enum Output {
+    Short,
+    Bytes(usize),
+}
+
+// Runs a session's bytes from the fresh record, and writes its lines to the front of the buffer.
+pub fn session(input: &[u8], out: &mut [u8]) -> Output
+    ensures { λ r. ⌜ (r ≡ resultOf (now (input .entry)) (now (out .entry))) × (now (out .exit) ≡ bufferOf (now (input .entry)) (now (out .entry))) ⌝ }
+{
+    if out.len() < 65600 {
+        return Output::Short;
+    }
+    if 4096 < input.len() {
+        return Output::Bytes(line::line(out, 0, 0, Answer::Refused(Refusal::SessionTooLong)));
+    }
+    Output::Bytes(run(input, out))
 }

@@ -6,31 +6,17 @@ use Rattle.transcript.proofs.Sizes.{size-none, size-some, few-operands}
 use borrow.Author.Needs.{needs}
 use Rattle.transcript.proofs.execute.size_at.Statement.{statement}
 use Rattle.transcript.proofs.execute.size_at.Tie as tie
-use Rattle.transcript.proofs.execute.size_at.Reads as reads
-use Rattle.transcript.proofs.execute.size_at.Lts as lts
-use Rattle.command.proofs.operand_bytes.Reads as operand-bytes-reads
 
--- src/execute.rt:73:9
 returns : tie.Need-returns
 returns c = sym (size-none (c .before .before .args .t .now) (c .if1 .taken))
 
--- src/execute.rt:75:32
-shared-slice-read-operand-bytes : tie.Need-shared-slice-read-operand-bytes
-shared-slice-read-operand-bytes c = search needs
-
--- src/execute.rt:75:9
-operand-bytes-requires : tie.Need-operand-bytes-requires
-operand-bytes-requires c κs = search needs
-
--- src/execute.rt:75:5
 add-result : tie.Need-add-result
 add-result c = omega (arith, c .operand-bytes .ensures, few-operands (getD (c .before .before .before .before .args .t .now) 0 0))
 
--- src/execute.rt:69:1
 returns-2 : tie.Need-returns-2
 returns-2 c = ap (λ n. 1 + n) (c .operand-bytes .ensures) ∙ sym (size-some (c .before .before .before .before .args .t .now) (omega arith))
 
 pub size-at-spec : {M : Type 1} → statement M
 size-at-spec =
     tie.close
-    (tie.spec returns shared-slice-read-operand-bytes operand-bytes-requires add-result returns-2)
+    (tie.spec returns (λ c. search needs) (λ c κs. search needs) add-result returns-2)

@@ -3,23 +3,14 @@ use Rattle.transcript.specs.Session.{execute}
 use borrow.Author.Needs.{needs}
 use Rattle.transcript.proofs.execute.tick.Statement.{statement}
 use Rattle.transcript.proofs.execute.tick.Tie as tie
-use Rattle.transcript.proofs.execute.tick.Reads as reads
-use Rattle.transcript.proofs.execute.tick.Lts as lts
-use Rattle.external.proofs.tick.Reads as tick-reads
 
--- src/execute.rt:16:9
 returns : tie.Need-returns
 unfolding execute
 returns c = simp (lt-ltb _ _ (c .if1 .taken))
 
--- src/execute.rt:21:5
-tick-requires : tie.Need-tick-requires
-tick-requires c κs = search needs
-
--- src/execute.rt:12:1
 returns-2 : tie.Need-returns-2
 unfolding execute
 returns-2 c = simp (le-ltb _ _ (c .before .if1 .left)) (c .tick .ensures)
 
 pub tick-spec : {M : Type 1} → statement M
-tick-spec = tie.close (tie.spec returns tick-requires returns-2)
+tick-spec = tie.close (tie.spec returns (λ c κs. search needs) returns-2)

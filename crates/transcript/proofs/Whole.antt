@@ -1,0 +1,40 @@
+-- What the library function answers and leaves in the buffer, for each way through its tests.
+use Prim.Native.Nat.{ℕ, _+_, _<_, _≤_}
+use mathlib.Core.List.{List, _++_}
+use mathlib.Core.Path.{_≡_, sym, _∙_, ap}
+use native.Mathlib.Nat.{zero-add}
+use native.Mathlib.Omega.{arith}
+use borrow.Author.Tests.{lt-ltb, le-ltb}
+use lib.ListN.{length, drop}
+use lib.Seq.{sets-eq}
+use Rattle.answer.specs.declared.Answer.{Answer}
+use Rattle.answer.specs.declared.Refusal.the-variants.{SessionTooLong}
+use Rattle.line.specs.Line.{lineOf}
+use Rattle.text.specs.Written.{Written}
+use Rattle.transcript.specs.declared.Output.{Output}
+use Rattle.transcript.specs.Session.{room, longest, answersOf, linesFrom, outputOf, resultOf, bufferOf}
+
+module _ (s out : List ℕ) where
+  pub too-short : length out < room → (Output.Short ≡ resultOf s out) × (out ≡ bufferOf s out)
+  unfolding resultOf bufferOf
+  too-short h = (sym (rw (lt-ltb (length out) room h)), sym (rw (lt-ltb (length out) room h)))
+
+  pub enough :
+      room ≤ length out → (out′ : List ℕ) (end : ℕ) → Written out 0 (outputOf s) out′ end → end ≤ length out
+      → (Output.Bytes end ≡ resultOf s out) × (out′ ≡ bufferOf s out)
+  unfolding resultOf bufferOf
+  enough h out′ end w fits = (
+    ap Output.Bytes (w .behind ∙ zero-add (length (outputOf s))) ∙ sym (rw (le-ltb (length out) room h)),
+    w .stored
+        ∙ sets-eq (outputOf s) out 0 (omega (arith, w .behind))
+        ∙ ap (λ n. outputOf s ++ drop n out) (zero-add (length (outputOf s)))
+        ∙ sym (rw (le-ltb (length out) room h)),
+  )
+
+  pub output-long : longest < length s → lineOf 0 (Answer.Refused SessionTooLong) ≡ outputOf s
+  unfolding outputOf
+  output-long h = sym (rw (lt-ltb longest (length s) h))
+
+  pub output-run : length s ≤ longest → linesFrom 1 (answersOf s) ≡ outputOf s
+  unfolding outputOf
+  output-run h = sym (rw (le-ltb longest (length s) h))
