@@ -1,11 +1,13 @@
 -- What the library function answers and leaves in the buffer, for each way through its tests.
 use Prim.Native.Nat.{ℕ, _+_, _<_, _≤_}
+use mathlib.Core.Bool.{Bool, true, false, cond}
 use mathlib.Core.List.{List, _++_}
 use mathlib.Core.Path.{_≡_, sym, _∙_, ap}
 use native.Mathlib.Nat.{zero-add}
 use native.Mathlib.Omega.{arith}
 use borrow.Author.Tests.{lt-ltb, le-ltb}
-use lib.ListN.{length, drop}
+use lib.Dec.{ltb}
+use lib.ListN.{length, drop, length-append}
 use lib.Seq.{sets-eq}
 use Rattle.answer.specs.declared.Answer.{Answer}
 use Rattle.answer.specs.declared.Refusal.the-variants.{SessionTooLong}
@@ -38,3 +40,18 @@ module _ (s out : List ℕ) where
   pub output-run : length s ≤ longest → linesFrom 1 (answersOf s) ≡ outputOf s
   unfolding outputOf
   output-run h = sym (rw (le-ltb longest (length s) h))
+
+  -- the bytes that are said to hold the output are bytes of the buffer
+  pub bytes-fit : (out′ : List ℕ) (k : ℕ) → Output.Bytes k ≡ resultOf s out → out′ ≡ bufferOf s out → k ≤ length out′
+  unfolding resultOf bufferOf
+  bytes-fit out′ k r b = go (ltb (length out) room) r b
+    where
+      go :
+          (c : Bool)
+          → Output.Bytes k ≡ cond c Output.Short (Output.Bytes (length (outputOf s)))
+          → out′ ≡ cond c out (outputOf s ++ drop (length (outputOf s)) out)
+          → k ≤ length out′
+      go true r b = let z : _≡_ {A = ℕ} 0 1 = cc in let n : ⊥ = omega arith in absurd n
+      go false r b =
+          let e : k ≡ length (outputOf s) = cc in
+          omega (arith, ap length b, length-append (outputOf s) (drop (length (outputOf s)) out))

@@ -1,0 +1,2 @@
+-- What the proofs of the crate `in_place` share.
+pub mod Values

@@ -1,0 +1,11 @@
+-- `lend::access`: the record of what `in_place::lent` returns.
+use mathlib.Core.Path.{ap}
+use Rattle.machine.specs.declared.Outcome.{Outcome}
+use Rattle.lend.proofs.access.Statement.{statement}
+use Rattle.lend.proofs.access.Tie as tie
+
+returns : tie.Need-returns
+returns c = ap (λ (o : Outcome). o .machine) (c .before .before .lent .ensures)
+
+pub access-spec : {M : Type 1} → statement M
+access-spec = tie.close (tie.spec (λ c κs. tt) (λ c κs. tt) returns)
