@@ -3,3 +3,5 @@ pub mod Worked
 pub mod Sizes
 pub mod Running
 pub mod Whole
+pub mod Fuel
+pub mod Lines
