@@ -1,2 +1,3 @@
 -- The laws of the crate `access`.
 pub mod Turns
+pub mod Calls
