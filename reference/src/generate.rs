@@ -1,0 +1,575 @@
+//! Pseudo-random sessions that stay consistent most of the time. A machine of
+//! the model goes along, only to steer: it takes part in no expectation.
+
+use crate::model::Machine;
+use crate::session::LIMIT;
+
+/// splitmix64.
+pub struct Rng(u64);
+
+impl Rng {
+    /// A generator of its own for each seed and session.
+    pub fn new(seed: u64, index: u64) -> Rng {
+        let mut outer = Rng(seed);
+        let mixed = outer.next() ^ index.wrapping_mul(0xD6E8_FEB8_6659_FD93);
+        let mut inner = Rng(mixed);
+        Rng(inner.next())
+    }
+
+    pub fn next(&mut self) -> u64 {
+        self.0 = self.0.wrapping_add(0x9E37_79B9_7F4A_7C15);
+        let mut z = self.0;
+        z = (z ^ z >> 30).wrapping_mul(0xBF58_476D_1CE4_E5B9);
+        z = (z ^ z >> 27).wrapping_mul(0x94D0_49BB_1331_11EB);
+        z ^ z >> 31
+    }
+
+    /// 0 to n - 1.
+    pub fn below(&mut self, n: u64) -> u64 {
+        self.next() % n
+    }
+
+    /// True in so many cases of a hundred.
+    pub fn chance(&mut self, percent: u64) -> bool {
+        self.below(100) < percent
+    }
+
+    fn pick<T: Copy>(&mut self, list: &[T]) -> T {
+        list[self.below(list.len() as u64) as usize]
+    }
+}
+
+/// A session in the making.
+struct Writer {
+    rng: Rng,
+    bytes: Vec<u8>,
+    machine: Machine,
+    /// How often, in a hundred, a bit that traps is set.
+    trapping: u64,
+}
+
+/// One bit fields and how often, in a hundred, they start as 1.
+const FEATURES: [(u8, u64); 12] = [
+    (0x00, 97),
+    (0x01, 65),
+    (0x02, 70),
+    (0x03, 55),
+    (0x04, 60),
+    (0x05, 50),
+    (0x06, 40),
+    (0x07, 45),
+    (0x08, 55),
+    (0x09, 75),
+    (0x0A, 55),
+    (0x0B, 50),
+];
+
+/// Fields that let accesses pass, and how often they start as 1.
+const PASSING: [(u8, u64); 16] = [
+    (0x20, 65),
+    (0x21, 45),
+    (0x22, 45),
+    (0x23, 55),
+    (0x24, 40),
+    (0x29, 75),
+    (0x2A, 60),
+    (0x2B, 75),
+    (0x2F, 75),
+    (0x30, 75),
+    (0x31, 40),
+    (0x33, 60),
+    (0x38, 85),
+    (0x3B, 85),
+    (0x11, 25),
+    (0x12, 35),
+];
+
+/// Fields that stop accesses.
+const STOPPING: [u8; 9] = [0x25, 0x26, 0x28, 0x2C, 0x2D, 0x2E, 0x39, 0x3A, 0x3C];
+
+// Single commands.
+impl Writer {
+    fn set(&mut self, field: u8, value: u64) {
+        self.bytes.push(0x01);
+        self.bytes.push(field);
+        self.bytes.extend(value.to_le_bytes());
+        self.machine.set(field, value);
+    }
+
+    fn level(&mut self, level: u8) {
+        self.bytes.extend([0x02, level]);
+        self.machine.set_level(level);
+    }
+
+    fn access(&mut self, word: u32, operand: u64) {
+        self.bytes.push(0x03);
+        self.bytes.extend(word.to_le_bytes());
+        self.bytes.extend(operand.to_le_bytes());
+    }
+
+    fn read(&mut self, offset: u16) {
+        self.bytes.push(0x04);
+        self.bytes.extend(offset.to_le_bytes());
+    }
+
+    fn write(&mut self, offset: u16, value: u64) {
+        self.bytes.push(0x05);
+        self.bytes.extend(offset.to_le_bytes());
+        self.bytes.extend(value.to_le_bytes());
+    }
+
+    fn tick(&mut self, flag: u8) {
+        self.bytes.extend([0x06, flag]);
+    }
+
+    /// Sets a bit; a 0 is written out only now and then while still fresh.
+    fn start_bit(&mut self, field: u8, percent: u64) {
+        let value = self.rng.chance(percent);
+        if value || self.rng.chance(10) {
+            self.set(field, value as u64);
+        }
+    }
+}
+
+// The start of a session.
+impl Writer {
+    /// Features that agree with each other.
+    fn features(&mut self) {
+        for (field, percent) in FEATURES {
+            let m = &self.machine;
+            let allowed = match field {
+                0x01 | 0x03 => m.pmuv3,
+                0x02 => m.pmuv3p5,
+                _ => true,
+            };
+            self.start_bit(field, if allowed { percent } else { 0 });
+        }
+        let n = self.rng.pick(&[0, 1, 2, 3, 4, 6, 6, 8, 15, 16, 24, 30, 31, 31]);
+        self.set(0x0C, n);
+        if self.machine.have_el2 {
+            self.start_bit(0x10, 80);
+        }
+        let hpmn = self.hpmn(n);
+        self.set(0x27, hpmn);
+    }
+
+    /// A HPMN that goes with N; with N 0 it needs HPMN0.
+    fn hpmn(&mut self, n: u64) -> u64 {
+        if n == 0 && self.machine.have_el2 && !self.machine.hpmn0 {
+            self.set(0x06, 1);
+        }
+        let least = if self.machine.hpmn0 || n == 0 { 0 } else { 1 };
+        match self.rng.below(4) {
+            0 => n,
+            1 => least,
+            _ => least + self.rng.below(n - least + 1),
+        }
+    }
+
+    /// Control bits, PMUACR, enables and the level.
+    fn settings(&mut self) {
+        for (field, percent) in PASSING {
+            self.start_bit(field, percent);
+        }
+        for field in STOPPING {
+            self.start_bit(field, self.trapping);
+        }
+        let p = self.rng.next() & self.rng.pick(&[0, 0x7FFF_FFFF, 0x7FFF_FFFF]);
+        self.set(0x32, p);
+        if self.rng.chance(70) {
+            let enables = self.rng.next() & 0x1_FFFF_FFFF;
+            self.set(0x34, enables);
+        }
+        self.change_level();
+    }
+
+    /// Debug state with EL3 in the way: rules 1 and 6 against those between.
+    fn debug_state(&mut self) {
+        for field in [0x0A, 0x0B, 0x11, 0x12, 0x28] {
+            self.start_bit(field, 85);
+        }
+        for field in [0x26, 0x2A, 0x2B, 0x2C, 0x2E, 0x29] {
+            self.start_bit(field, 50);
+        }
+    }
+
+    /// Event numbers and counters.
+    fn counters(&mut self) {
+        for m in 0..31 {
+            if self.rng.chance(25) {
+                let event = self.rng.pick(&[0, 1, 8, 0x11, 0x100, 0xFFFF]);
+                self.set(0x40 + m, event);
+            }
+            if self.rng.chance(50) {
+                let value = self.counter_value();
+                self.set(0x60 + m, value);
+            }
+        }
+        let value = self.rng.pick(&[0, 7, u64::MAX, u64::MAX - 1, 0xFFFF_FFFF, 1 << 63]);
+        self.set(0x7F, value);
+    }
+
+    /// A value that event counters of this machine can hold.
+    fn counter_value(&mut self) -> u64 {
+        let value = self.operand();
+        if self.machine.pmuv3p5 {
+            value
+        } else {
+            value & 0xFFFF_FFFF
+        }
+    }
+
+    /// A value of 64 bits, often beside a border.
+    fn operand(&mut self) -> u64 {
+        let small = self.rng.below(256);
+        let any = self.rng.next();
+        match self.rng.below(9) {
+            0 => small,
+            1 => 0xFFFF_FFFF,
+            2 => u64::MAX,
+            3 => 0xFFFF_FFFF - small % 3,
+            4 => u64::MAX - small % 3,
+            5 => 1u64 << (small % 64),
+            6 => any & 0xFFFF_FFFF,
+            7 => 0x1_0000_0000 + small % 3,
+            _ => any,
+        }
+    }
+}
+
+// Commands in the middle of a session.
+impl Writer {
+    /// One command of any kind; an inconsistent machine is soon mended.
+    fn command(&mut self) {
+        if self.machine.state_refusal().is_some() && self.rng.chance(35) {
+            self.mend();
+            return;
+        }
+        match self.rng.below(100) {
+            0..=15 => self.some_set(),
+            16..=27 => self.some_level(),
+            28..=77 => self.some_access(),
+            78..=83 => self.some_read(),
+            84..=89 => self.some_write(),
+            _ => {
+                let flag = self.rng.pick(&[0, 0, 0, 0, 1, 1, 2, 0xFF]);
+                self.tick(flag);
+            }
+        }
+    }
+
+    /// A set command, sometimes one that is refused or makes a bad record.
+    fn some_set(&mut self) {
+        let value = self.rng.next();
+        match self.rng.below(20) {
+            0 => {
+                let field = self.rng.pick(&[0x0D, 0x0F, 0x13, 0x1F, 0x35, 0x37, 0x3D, 0x5F, 0x80, 0xFF]);
+                self.set(field, value & 1);
+            }
+            1 => {
+                let field = self.rng.below(256) as u8;
+                self.set(field, value);
+            }
+            2 => {
+                let field = self.rng.pick(&[0x00, 0x0C, 0x10, 0x20, 0x27, 0x32, 0x34, 0x3C, 0x40, 0x5E]);
+                let largest = Machine::largest(field).unwrap_or(0);
+                self.set(field, largest + 1);
+            }
+            3 => self.spoil(),
+            _ => self.good_set(),
+        }
+    }
+
+    /// A set command that leaves a consistent record consistent.
+    fn good_set(&mut self) {
+        let field = match self.rng.below(8) {
+            0 => 0x60 + self.rng.below(32) as u8,
+            1 => 0x40 + self.rng.below(31) as u8,
+            2 => self.rng.pick(&[0x32, 0x34, 0x0C, 0x27]),
+            3 => self.rng.below(0x0C) as u8,
+            4 => self.rng.pick(&STOPPING),
+            5 => 0x10 + self.rng.below(3) as u8,
+            _ => self.rng.pick(&PASSING).0,
+        };
+        let value = match field {
+            0x60..=0x7E => self.counter_value(),
+            0x7F => self.operand(),
+            0x40..=0x5E => self.rng.pick(&[0, 0, 0, 1, 0xFFFF]),
+            0x32 => self.rng.next() & 0x7FFF_FFFF,
+            0x34 => self.rng.next() & 0x1_FFFF_FFFF,
+            0x0C | 0x27 => self.rng.below(32),
+            _ => self.rng.below(2),
+        };
+        let mut trial = self.machine.clone();
+        trial.set(field, value);
+        if trial.state_refusal().is_none() || self.machine.state_refusal().is_some() {
+            self.set(field, value);
+        } else {
+            self.tick(0);
+        }
+    }
+
+    /// A level command, sometimes one that is refused or makes a bad record.
+    fn some_level(&mut self) {
+        match self.rng.below(14) {
+            0 => {
+                let level = self.rng.pick(&[4, 5, 0x80, 0xFF]);
+                self.level(level);
+            }
+            1 => {
+                let level = self.rng.below(4) as u8;
+                self.level(level);
+            }
+            _ => self.change_level(),
+        }
+    }
+
+    /// A level that the machine can be at, if another.
+    fn change_level(&mut self) {
+        let level = self.rng.below(4) as u8;
+        let mut trial = self.machine.clone();
+        trial.set_level(level);
+        if !matches!(trial.state_refusal(), Some(11) | Some(16)) {
+            self.level(level);
+        } else {
+            self.level(0);
+        }
+    }
+
+    /// One inconsistency on purpose.
+    fn spoil(&mut self) {
+        match self.rng.below(9) {
+            0 => self.level(3),
+            1 => self.level(2),
+            2 => self.set(0x10, 1),
+            3 => self.set(0x27, 31),
+            4 => self.set(0x27, 0),
+            5 => {
+                let field = 0x60 + self.rng.below(31) as u8;
+                self.set(field, 1 << 32);
+            }
+            6 => {
+                self.set(0x25, 1);
+                self.level(1);
+            }
+            7 => {
+                let field = self.rng.pick(&[0, 1]);
+                self.set(field, 0);
+            }
+            _ => {
+                let field = self.rng.pick(&[1, 2, 3]);
+                self.set(field, 1);
+            }
+        }
+    }
+
+    /// Mends the lowest inconsistency.
+    fn mend(&mut self) {
+        let n = self.machine.n as u64;
+        let other = self.rng.chance(50);
+        match self.machine.state_refusal() {
+            Some(11) => self.level(0),
+            Some(12) => self.set(0x10, 0),
+            Some(13) => self.set(0x27, n),
+            Some(14) if n > 0 && other => self.set(0x27, 1),
+            Some(14) => self.set(0x06, 1),
+            Some(15) => self.set(0x01, 1),
+            Some(16) if other => self.level(0),
+            Some(16) => self.set(0x25, 0),
+            Some(_) if !self.machine.pmuv3 => self.set(0x00, 1),
+            Some(_) => self.set(0x01, 1),
+            None => {}
+        }
+    }
+}
+
+/// The word of MRS or MSR with op0 3 and op1 3.
+fn word(read: bool, crn: u32, crm: u32, op2: u32, rt: u32) -> u32 {
+    let base = if read { 0xD53B_0000 } else { 0xD51B_0000 };
+    base | crn << 12 | crm << 8 | op2 << 5 | rt
+}
+
+/// The word of a counter access.
+fn counter_word(read: bool, m: u32, rt: u32) -> u32 {
+    word(read, 14, 8 + m / 8, m % 8, rt)
+}
+
+// Accesses.
+impl Writer {
+    fn some_access(&mut self) {
+        let operand = self.operand();
+        let rt = if self.rng.chance(12) { 31 } else { self.rng.below(31) as u32 };
+        let read = self.rng.chance(55);
+        let chosen = match self.rng.below(20) {
+            0..=8 => counter_word(read, self.counter(), rt),
+            9..=13 => {
+                let mask = self.mask();
+                let read = self.rng.chance(4);
+                self.access(word(read, 9, 12, 4, rt), mask);
+                return;
+            }
+            14..=17 => word(read, 9, 4, 0, rt),
+            18 => self.neighbour(rt),
+            _ => self.rng.next() as u32,
+        };
+        self.access(chosen, operand);
+    }
+
+    /// A counter number, often beside N or HPMN.
+    fn counter(&mut self) -> u32 {
+        let near = self.rng.below(3) as u32;
+        let middle = match self.rng.below(3) {
+            0 => self.machine.n as u32,
+            1 => self.machine.hpmn as u32,
+            _ => return self.rng.below(32) as u32,
+        };
+        (middle + near).saturating_sub(1).min(31)
+    }
+
+    /// An operand for PMSWINC.
+    fn mask(&mut self) -> u64 {
+        let any = self.rng.next();
+        match self.rng.below(6) {
+            0 => u64::MAX,
+            1 => 0x7FFF_FFFF,
+            2 => 1 << self.counter(),
+            3 => any & 0xFFFF_FFFF_0000_0000 | 1 << self.rng.below(31),
+            4 => any & self.rng.next(),
+            _ => any,
+        }
+    }
+
+    /// A word that differs a little from one of ours.
+    fn neighbour(&mut self, rt: u32) -> u32 {
+        let read = self.rng.chance(50);
+        let m = self.rng.below(32) as u32;
+        let ours = match self.rng.below(3) {
+            0 => counter_word(read, m, rt),
+            1 => word(false, 9, 12, 4, rt),
+            _ => word(read, 9, 4, 0, rt),
+        };
+        ours ^ 1 << self.rng.below(32)
+    }
+
+    fn offset(&mut self) -> u16 {
+        if self.rng.chance(85) {
+            return 0xC00;
+        }
+        let any = self.rng.next() as u16;
+        self.rng.pick(&[0xC04, 0xBFF, 0xC01, 0x000, 0x00C, 0x1C00, 0xC20, any])
+    }
+
+    fn some_read(&mut self) {
+        let offset = self.offset();
+        self.read(offset);
+    }
+
+    fn some_write(&mut self) {
+        let offset = self.offset();
+        let value = self.operand();
+        self.write(offset, value);
+    }
+}
+
+// The end of a session.
+impl Writer {
+    /// Opens everything, then reads each counter and the enables.
+    fn dump(&mut self) {
+        const OPEN: [(u8, u64); 15] = [
+            (0x10, 0), (0x00, 1), (0x01, 1), (0x03, 1), (0x06, 1),
+            (0x0C, 31), (0x08, 1), (0x11, 0), (0x28, 0), (0x29, 1),
+            (0x38, 1), (0x39, 0), (0x3A, 0), (0x3B, 1), (0x27, 31),
+        ];
+        for (field, value) in OPEN {
+            self.set(field, value);
+        }
+        self.level(1);
+        for m in 0..31 {
+            self.access(counter_word(true, m, m), 0);
+        }
+        self.access(word(true, 9, 4, 0, 30), 0);
+        self.read(0xC00);
+    }
+
+    /// Mostly the end command alone.
+    fn ending(&mut self) {
+        match self.rng.below(100) {
+            0..=69 => self.bytes.push(0x00),
+            70..=77 => {
+                self.bytes.push(0x00);
+                let count = 1 + self.rng.below(20) as usize;
+                self.noise(count);
+            }
+            78..=83 => {
+                let first = self.rng.pick(&[0x07, 0x08, 0x10, 0x80, 0xFF]);
+                self.bytes.push(first);
+                self.noise(5);
+            }
+            84..=91 => {
+                let cut = 1 + self.rng.below(13) as usize;
+                self.bytes.truncate(self.bytes.len().saturating_sub(cut));
+            }
+            92..=94 => {}
+            95..=97 => {
+                self.bytes.push(0x00);
+                self.fill();
+            }
+            _ => self.overrun(),
+        }
+    }
+
+    fn noise(&mut self, count: usize) {
+        for _ in 0..count {
+            let byte = self.rng.next() as u8;
+            self.bytes.push(byte);
+        }
+    }
+
+    /// Bytes after the end, up to the limit or just over it.
+    fn fill(&mut self) {
+        let size = LIMIT + self.rng.pick(&[0, 0, 1, 1, 100]) - self.rng.below(2) as usize;
+        self.noise(size.saturating_sub(self.bytes.len()));
+    }
+
+    /// Commands up to the limit or over it, the end included.
+    fn overrun(&mut self) {
+        let size = LIMIT - 1 + self.rng.below(3) as usize;
+        while self.bytes.len() + 16 < size {
+            self.command();
+        }
+        while self.bytes.len() + 1 < size {
+            self.tick(0);
+        }
+        self.bytes.push(0x00);
+    }
+}
+
+/// One session, always the same for the same numbers.
+pub fn session(seed: u64, index: u64) -> Vec<u8> {
+    let mut rng = Rng::new(seed, index);
+    let trapping = rng.pick(&[3, 10, 10, 25]);
+    let mut writer = Writer { rng, bytes: Vec::new(), machine: Machine::default(), trapping };
+    if writer.rng.chance(3) {
+        let count = writer.rng.below(30) as usize;
+        writer.noise(count);
+        return writer.bytes;
+    }
+    writer.features();
+    writer.settings();
+    if writer.rng.chance(15) {
+        writer.debug_state();
+    }
+    writer.counters();
+    if writer.rng.chance(12) {
+        writer.spoil();
+    }
+    let count = writer.rng.pick(&[3, 10, 30, 60, 100, 120]);
+    for _ in 0..count {
+        writer.command();
+    }
+    if writer.rng.chance(65) {
+        writer.dump();
+    }
+    writer.ending();
+    writer.bytes
+}

@@ -1,0 +1,128 @@
+//! Sessions of document 01: a row of bytes in, lines out. A session always
+//! starts from the fresh machine.
+
+use crate::model::{Answer, Machine};
+
+/// A session of more bytes is not run.
+pub const LIMIT: usize = 4096;
+
+/// One command with its operands.
+#[derive(Clone, Copy, Debug, PartialEq, Eq)]
+pub enum Command {
+    End,
+    Set { field: u8, value: u64 },
+    Level(u8),
+    Access { word: u32, operand: u64 },
+    Read { offset: u16 },
+    Write { offset: u16, value: u64 },
+    Tick { prohibited: u8 },
+}
+
+/// What stands at the start of a row of bytes.
+#[derive(Clone, Copy, Debug, PartialEq, Eq)]
+pub enum Parsed {
+    /// A command and its length.
+    Command(Command, usize),
+    /// The command byte is unknown.
+    Unknown,
+    /// The bytes end inside a command, or there are none.
+    Short,
+}
+
+/// The length of a command by its first byte.
+fn length(first: u8) -> Option<usize> {
+    match first {
+        0x00 => Some(1),
+        0x01 => Some(1 + 1 + 8),
+        0x02 => Some(1 + 1),
+        0x03 => Some(1 + 4 + 8),
+        0x04 => Some(1 + 2),
+        0x05 => Some(1 + 2 + 8),
+        0x06 => Some(1 + 1),
+        _ => None,
+    }
+}
+
+/// A little-endian number of up to 8 bytes.
+fn little(bytes: &[u8]) -> u64 {
+    bytes.iter().rev().fold(0, |sum, &b| sum << 8 | b as u64)
+}
+
+/// Reads one command.
+pub fn parse(bytes: &[u8]) -> Parsed {
+    let first = match bytes.first() {
+        Some(&first) => first,
+        None => return Parsed::Short,
+    };
+    let length = match length(first) {
+        Some(length) => length,
+        None => return Parsed::Unknown,
+    };
+    if bytes.len() < length {
+        return Parsed::Short;
+    }
+    let b = &bytes[1..length];
+    let command = match first {
+        0x00 => Command::End,
+        0x01 => Command::Set { field: b[0], value: little(&b[1..]) },
+        0x02 => Command::Level(b[0]),
+        0x03 => Command::Access { word: little(&b[..4]) as u32, operand: little(&b[4..]) },
+        0x04 => Command::Read { offset: little(b) as u16 },
+        0x05 => Command::Write { offset: little(&b[..2]) as u16, value: little(&b[2..]) },
+        _ => Command::Tick { prohibited: b[0] },
+    };
+    Parsed::Command(command, length)
+}
+
+/// Obeys a command that is not the end.
+fn obey(machine: &mut Machine, command: Command) -> Answer {
+    match command {
+        Command::End => Answer::Ok,
+        Command::Set { field, value } => machine.set(field, value),
+        Command::Level(level) => machine.set_level(level),
+        Command::Access { word, operand } => machine.access(word, operand),
+        Command::Read { offset } => machine.external_read(offset),
+        Command::Write { offset, value } => machine.external_write(offset, value),
+        Command::Tick { prohibited } => machine.tick(prohibited),
+    }
+}
+
+/// The words of an answer, as they stand behind the position.
+pub fn words(answer: Answer) -> String {
+    match answer {
+        Answer::Ok => "ok".to_string(),
+        Answer::Undefined => "undef".to_string(),
+        Answer::Other => "other".to_string(),
+        Answer::Error => "error".to_string(),
+        Answer::Trap { target, syndrome } => format!("trap {target} {syndrome:08X}"),
+        Answer::Moved { value, rt } => format!("value {value:016X} {rt}"),
+        Answer::Value(value) => format!("value {value:016X}"),
+        Answer::Refused(number) => format!("refused {number}"),
+    }
+}
+
+/// Runs a session and gives its whole output.
+pub fn run(bytes: &[u8]) -> String {
+    if bytes.len() > LIMIT {
+        return "0 refused 6\n".to_string();
+    }
+    let mut machine = Machine::default();
+    let mut output = String::new();
+    let mut at = 0;
+    for position in 1.. {
+        let (text, last) = match parse(&bytes[at..]) {
+            Parsed::Unknown => ("refused 1".to_string(), true),
+            Parsed::Short => ("refused 2".to_string(), true),
+            Parsed::Command(Command::End, _) => ("end".to_string(), true),
+            Parsed::Command(command, length) => {
+                at += length;
+                (words(obey(&mut machine, command)), false)
+            }
+        };
+        output.push_str(&format!("{position} {text}\n"));
+        if last {
+            break;
+        }
+    }
+    output
+}

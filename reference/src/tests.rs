@@ -1,0 +1,304 @@
+//! Tests: the worked session, the soundings P1 to P11 through sessions, the
+//! limit, the round trip of the notation, the examples, and the order of traps
+//! written a second time as the list of rules in document 01.
+
+use crate::generate::{self, Rng};
+use crate::model::{Answer, Machine};
+use crate::notation::{assemble, disassemble};
+use crate::session::run;
+
+/// Runs a session given in the notation.
+fn run_text(text: &str) -> String {
+    run(&assemble(text).expect("notation"))
+}
+
+/// The start of the soundings.
+const GIVEN: &str = "01 00 v:1 01 01 v:1 01 02 v:1 01 04 v:1 01 08 v:1 01 09 v:1
+    01 10 v:1 01 38 v:1 01 3B v:1 01 0C v:6 01 27 v:4 01 20 v:1 ";
+
+/// Runs commands after the given start; the answers without `ok` and `end`.
+fn sound(text: &str) -> Vec<String> {
+    let output = run_text(&format!("{GIVEN}{text} 00"));
+    let mut answers = Vec::new();
+    for (index, line) in output.lines().enumerate() {
+        let (position, answer) = line.split_once(' ').expect("position");
+        assert_eq!(position, (index + 1).to_string());
+        if answer != "ok" && answer != "end" {
+            answers.push(answer.to_string());
+        }
+    }
+    answers
+}
+
+#[test]
+fn worked_session() {
+    let text = "01 00 v:1\n01 0C v:2\n01 61 v:42\n02 01\n\
+                03 22 E8 3B D5 v:0\n03 42 E8 3B D5 v:0\n00\n";
+    let expected = "1 ok\n2 ok\n3 ok\n4 ok\n5 value 000000000000002A 2\n6 undef\n7 end\n";
+    assert_eq!(run_text(text), expected);
+}
+
+#[test]
+fn p01() {
+    assert_eq!(sound("02 01 03 82 E8 3B D5 v:0"), ["trap 2 6238F851"]);
+}
+
+#[test]
+fn p02() {
+    let text = "01 65 v:77 02 01 03 A2 E8 3B D5 v:0 02 02 03 A2 E8 3B D5 v:0";
+    assert_eq!(sound(text), ["trap 2 623AF851", "value 000000000000004D 2"]);
+}
+
+#[test]
+fn p03() {
+    assert_eq!(sound("02 02 03 C2 E8 3B D5 v:0"), ["undef"]);
+}
+
+#[test]
+fn p04() {
+    let text = "01 63 v:33 01 23 v:1 03 62 E8 3B D5 v:0 03 62 E8 1B D5 v:5
+                02 01 03 62 E8 3B D5 v:0";
+    assert_eq!(sound(text), ["value 0000000000000000 2", "value 0000000000000021 2"]);
+}
+
+#[test]
+fn p05() {
+    let text = "01 63 v:33 01 23 v:1 01 22 v:1 01 32 v:8 03 62 E8 1B D5 v:5
+                03 62 E8 3B D5 v:0";
+    assert_eq!(sound(text), ["value 0000000000000021 2"]);
+}
+
+#[test]
+fn p06() {
+    let reads = "02 02 03 62 E8 3B D5 v:0 03 82 E8 3B D5 v:0";
+    let swinc = "03 81 9C 1B D5 v:24";
+    assert_eq!(
+        sound(&format!("02 01 {swinc} {reads}")),
+        ["value 0000000000000001 2", "value 0000000000000000 2"]
+    );
+    assert_eq!(
+        sound(&format!("02 02 {swinc} {reads}")),
+        ["value 0000000000000001 2", "value 0000000000000001 2"]
+    );
+}
+
+#[test]
+fn p07() {
+    let text = "01 60 v:4294967295 02 01 03 81 9C 1B D5 v:1 03 02 E8 3B D5 v:0";
+    assert_eq!(sound(text), ["value 0000000100000000 2"]);
+    assert_eq!(sound(&format!("01 01 v:0 01 02 v:0 {text}")), ["value 0000000000000000 2"]);
+}
+
+#[test]
+fn p08() {
+    let text = "01 20 v:0 03 81 9C 1B D5 v:0 01 25 v:1 03 81 9C 1B D5 v:0";
+    assert_eq!(sound(text), ["trap 1 6238E438", "trap 2 6238E438"]);
+}
+
+#[test]
+fn p09() {
+    let text = "01 23 v:1 01 21 v:1 01 20 v:0 03 81 9C 1B D5 v:8 02 02 03 62 E8 3B D5 v:0";
+    assert_eq!(sound(text), ["value 0000000000000001 2"]);
+}
+
+#[test]
+fn p10() {
+    let read = "02 01 03 A2 E8 3B D5 v:0";
+    assert_eq!(sound(&format!("01 27 v:6 {read}")), ["value 0000000000000000 2"]);
+    assert_eq!(sound(&format!("01 27 v:7 {read}")), ["refused 13"]);
+}
+
+#[test]
+fn p11() {
+    let text = "05 00 0C v:0x1FFFFFFFF 04 00 0C";
+    assert_eq!(sound(text), ["value 000000008000003F"]);
+    assert_eq!(sound(&format!("01 03 v:1 {text}")), ["value 000000018000003F"]);
+}
+
+#[test]
+fn limit_of_4096_bytes() {
+    assert_eq!(run(&[]), "1 refused 2\n");
+    assert_eq!(run(&[0; 4096]), "1 end\n");
+    assert_eq!(run(&[0; 4097]), "0 refused 6\n");
+    let mut ticks = [6u8, 0].repeat(2047);
+    ticks.extend([2, 0]);
+    let output = run(&ticks);
+    assert_eq!(ticks.len(), 4096);
+    assert!(output.ends_with("\n2048 ok\n2049 refused 2\n"));
+}
+
+#[test]
+fn notation_round_trip() {
+    let mut rng = Rng::new(1, 2);
+    for index in 0..4000u64 {
+        let count = rng.below(80) as usize;
+        let mask = if rng.chance(50) { 0x07 } else { 0xFF };
+        let random: Vec<u8> = (0..count).map(|_| rng.next() as u8 & mask).collect();
+        for bytes in [random, generate::session(3, index)] {
+            assert_eq!(assemble(&disassemble(&bytes)), Ok(bytes));
+        }
+    }
+}
+
+#[test]
+fn notation_errors() {
+    assert_eq!(assemble("# 1\n\n 0a FF # x\nv:0x102"), Ok(vec![10, 255, 2, 1, 0, 0, 0, 0, 0, 0]));
+    for bad in ["1", "123", "G0", "+1", "v:", "v:-1", "v:+1", "v:0x", "v:18446744073709551616"] {
+        assert!(assemble(bad).is_err(), "{bad}");
+    }
+}
+
+/// The answers an example demands: `#>`, or `ok` for commands without it.
+fn demanded(text: &str) -> String {
+    let mut output = String::new();
+    let mut position = 0;
+    for line in text.lines() {
+        let (code, comment) = line.split_once('#').unwrap_or((line, ""));
+        let answer = match comment.strip_prefix('>') {
+            Some(answer) => answer.trim(),
+            None if !code.trim().is_empty() => "ok",
+            None => continue,
+        };
+        if answer != "nothing" {
+            position += 1;
+            output.push_str(&format!("{position} {answer}\n"));
+        }
+    }
+    output
+}
+
+/// The examples stand beside the crate, or where REFERENCE_EXAMPLES says.
+#[test]
+fn examples() {
+    let beside = concat!(env!("CARGO_MANIFEST_DIR"), "/../examples");
+    let directory = std::env::var("REFERENCE_EXAMPLES").unwrap_or(beside.to_string());
+    let mut count = 0;
+    for entry in std::fs::read_dir(&directory).expect("examples") {
+        let path = entry.expect("entry").path();
+        if path.extension().map_or(false, |e| e == "txt") {
+            let text = std::fs::read_to_string(&path).expect("text");
+            assert_eq!(run_text(&text), demanded(&text), "{}", path.display());
+            count += 1;
+        }
+    }
+    assert!(count >= 30, "only {count} examples");
+}
+
+/// A consistent machine with random fields.
+fn random_machine(rng: &mut Rng) -> Machine {
+    loop {
+        let mut machine = Machine::default();
+        for field in 0..=0x7F {
+            if let Some(largest) = Machine::largest(field) {
+                let value = match field {
+                    0x00 => 1,
+                    0x40..=0x7E => rng.below(2),
+                    _ if largest == u64::MAX => rng.next(),
+                    _ => rng.below(largest + 1),
+                };
+                machine.set(field, value);
+            }
+        }
+        machine.set_level(rng.below(4) as u8);
+        if machine.state_refusal().is_none() {
+            return machine;
+        }
+    }
+}
+
+/// "Order of traps" of 01 for PMEVCNTR (with m) and PMSWINC (without), as a
+/// list: 0 passes, 1 to 3 trap, 9 is undefined.
+fn rules(r: &Machine, m: Option<u8>, read: bool) -> u8 {
+    let low = r.el <= 1;
+    let stop = if r.halted && r.sdd { 9 } else { 3 };
+    let shut = match (m, read) {
+        (Some(_), true) => !(r.en || r.er),
+        (Some(_), false) => !r.en,
+        (None, _) => !(r.en || r.sw),
+    };
+    let fine = match (m, read) {
+        (Some(_), true) => r.hdfgrtr_pmevcntrn,
+        (Some(_), false) => r.hdfgwtr_pmevcntrn,
+        (None, _) => r.hdfgwtr_pmswinc,
+    };
+    let both = r.e2h && r.tge;
+    let all = r.halted && r.sdd && r.el3_trap_priority && r.mdcr_el3_tpm;
+    let list = [
+        (m.map_or(false, |m| m >= r.n) || m.is_none() && read, 9),
+        (r.have_el3 && r.el <= 2 && all, 9),
+        (r.el == 0 && shut, if r.el2_enabled && r.tge { 2 } else { 1 }),
+        (
+            r.el2_enabled && low && r.fgt && (!r.have_el3 || r.fgten) && fine
+                && (r.el == 1 || !both),
+            2,
+        ),
+        (r.el2_enabled && low && r.mdcr_el2_tpm, 2),
+        (r.el2_enabled && low && m.map_or(false, |m| m >= r.hpmn), 2),
+        (r.have_el3 && r.el <= 2 && r.mdcr_el3_tpm, stop),
+    ];
+    list.iter().find(|(applies, _)| *applies).map_or(0, |(_, result)| *result)
+}
+
+/// The same for PMICNTR.
+fn pmicntr_rules(r: &Machine, read: bool) -> u8 {
+    let low = r.el2_enabled && r.el <= 1;
+    let fine = low && r.fgt2 && !(r.el == 0 && r.e2h && r.tge);
+    let bit = if read { r.hdfgrtr2_npmicntr } else { r.hdfgwtr2_npmicntr };
+    let el3 = r.have_el3 && r.el <= 2;
+    let stop = if r.halted && r.sdd { 9 } else { 3 };
+    let all = r.halted && r.sdd && r.el3_trap_priority && (!r.enpm2 || r.mdcr_el3_tpm);
+    let list = [
+        (!r.icntr, 9),
+        (el3 && all, 9),
+        (fine && r.have_el3 && !r.fgten2, 2),
+        (fine && !bit, 2),
+        (low && r.mdcr_el2_tpm, 2),
+        (el3 && !r.enpm2, stop),
+        (el3 && r.mdcr_el3_tpm, stop),
+    ];
+    list.iter().find(|(applies, _)| *applies).map_or(0, |(_, result)| *result)
+}
+
+/// What an answer is in the numbers of the rules.
+fn outcome(answer: Answer) -> u8 {
+    match answer {
+        Answer::Ok | Answer::Moved { .. } => 0,
+        Answer::Trap { target, .. } => target,
+        Answer::Undefined => 9,
+        _ => panic!("{answer:?}"),
+    }
+}
+
+#[test]
+fn pages_agree_with_the_rules() {
+    let mut rng = Rng::new(5, 6);
+    let mut seen = [0u32; 10];
+    for _ in 0..200_000 {
+        let machine = random_machine(&mut rng);
+        let m = rng.below(32) as u8;
+        let read = rng.chance(50);
+        let direction = if read { 0x0020_0000 } else { 0 };
+        let (word, expected) = match rng.below(3) {
+            0 => {
+                let place = ((m as u32 / 8) << 8) | ((m as u32 % 8) << 5);
+                (0xD51B_E800 | place, rules(&machine, Some(m), read))
+            }
+            1 => (0xD51B_9C80, rules(&machine, None, read)),
+            _ => (0xD51B_9400, pmicntr_rules(&machine, read)),
+        };
+        let got = outcome(machine.clone().access(word | direction, 1));
+        assert_eq!(got, expected, "{word:08X} read {read} {machine:?}");
+        seen[got as usize] += 1;
+    }
+    for kind in [0, 1, 2, 3, 9] {
+        assert!(seen[kind] > 1000, "{seen:?}");
+    }
+}
+
+#[test]
+fn generated_sessions_repeat() {
+    for index in 0..50 {
+        assert_eq!(generate::session(9, index), generate::session(9, index));
+    }
+    assert_ne!(generate::session(9, 0), generate::session(10, 0));
+}
