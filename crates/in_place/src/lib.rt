@@ -1,6 +1,6 @@
 // The access with the record lent and changed there: the caller holds one record, and no second copy. Thin functions over the
 // by-value step, which works on a copy of its own during the call. A reference to a struct is proved by hand, so both functions
-// have a walk in proofs/; whoever calls `lent` needs none.
+// have a walk in proofs/; whoever calls `owned` needs none.
 ghost use mathlib.Core.Path.{_≡_};
 ghost use Rattle.rules.specs.Step.{step};
 use answer::Answer;
@@ -17,7 +17,7 @@ pub fn step(r: &mut Machine, w: u32, x: u64) -> Answer
 }
 
 // The same for a caller that has the record by value: the record is lent to `step`, and handed back with the answer.
-pub fn lent(r: Machine, w: u32, x: u64) -> Outcome
+pub fn owned(r: Machine, w: u32, x: u64) -> Outcome
     ensures { λ o. ⌜ o ≡ step w x r ⌝ }
 {
     let mut m = r;

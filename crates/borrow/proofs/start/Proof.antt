@@ -1,10 +1,10 @@
--- `lend::start`: the contracts of the calls, one inside the other.
+-- `borrow::start`: the contracts of the calls, one inside the other.
 use mathlib.Core.Path.{_∙_, ap}
 use Rattle.fields.specs.Set.{set, setLevel}
 use Rattle.machine.specs.declared.Machine.{Machine}
 use Rattle.machine.specs.declared.Outcome.{Outcome}
-use Rattle.lend.proofs.start.Statement.{statement}
-use Rattle.lend.proofs.start.Tie as tie
+use Rattle.borrow.proofs.start.Statement.{statement}
+use Rattle.borrow.proofs.start.Tie as tie
 
 returns : tie.Need-returns
 returns c =

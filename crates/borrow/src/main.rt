@@ -72,7 +72,7 @@ fn print(a: Answer) {
 fn access(r: Machine, w: u32, x: u64) -> Machine
     ensures { λ m. ⌜ m ≡ step w x r .machine ⌝ }
 {
-    let o = in_place::lent(r, w, x);
+    let o = in_place::owned(r, w, x);
     let a = o.answer;
     print(a);
     o.machine

@@ -1,4 +1,4 @@
--- `in_place::lent` meets its contract: a walk of its MIR, by hand. The record in the local is lent to `in_place::step` for a
+-- `in_place::owned` meets its contract: a walk of its MIR, by hand. The record in the local is lent to `in_place::step` for a
 -- lifetime that is made for the call. Once that is over the local holds the last value that the callee's contract says.
 -- All that the walk knows of `in_place::step` is that it meets its contract. No field of the record is taken apart.
 -- Assumes nothing.
@@ -57,13 +57,13 @@ use Rattle.in_place.proofs.step as step′
 use Rattle.in_place.proofs.step.Symbol as step-def
 use Rattle.in_place.proofs.step.Symbol.{name as #in-place·step}
 use Rattle.in_place.proofs.step.Met as step-thm
-use Rattle.in_place.proofs.lent.Key.{name as #in-place·lent}
-use Rattle.in_place.proofs.lent as lent
-use Rattle.in_place.proofs.lent.Statement as stated
-use Rattle.in_place.proofs.lent.Code as code
-use Rattle.in_place.proofs.lent.Code.Mir as body
+use Rattle.in_place.proofs.owned.Key.{name as #in-place·owned}
+use Rattle.in_place.proofs.owned as this
+use Rattle.in_place.proofs.owned.Statement as stated
+use Rattle.in_place.proofs.owned.Code as code
+use Rattle.in_place.proofs.owned.Code.Mir as body
 
-abbrev stayed : Stays (lent.ended .signature .params) (lent.ended .kept)
+abbrev stayed : Stays (this.ended .signature .params) (this.ended .kept)
 stayed = (stay-none (λ _. M′.the-row) yes, (stay-none (λ _. u32) yes, (stay-none (λ _. u64) yes, tt)))
 
 module _ {M : Type 1} (𝓤 : URA M) (H : Heap 𝓤) (A : Atoms 𝓤) (W : Given 𝓤 H A) where
@@ -99,11 +99,11 @@ module _ {M : Type 1} (𝓤 : URA M) (H : Heap 𝓤) (A : Atoms 𝓤) (W : Given
   at = (val h ∷ [], (vint w32 w ∷ [], (vint w64 x ∷ [], tt)))
 
   abbrev Post : Val → SProp 𝓤
-  Post = walkOf 𝓤 H A lent.ended stayed (lent.clauses 𝓤 H A at-mem run) .post ((tt, tt, tt, a, at), tt)
+  Post = walkOf 𝓤 H A this.ended stayed (this.clauses 𝓤 H A at-mem run) .post ((tt, tt, tt, a, at), tt)
 
   exits : (out : Outcome) → out ≡ stepOf w x h → Is O′.the-row out (both out ∷ []) → ent 𝓤 (sem 𝓤 H A ftrue) (Post (both out))
   exits out e is =
-      qed W (‵ ftrue ∷ []) ∵ suffices ! _ (ends-at 𝓤 H A lent.ended stayed (lent.clauses 𝓤 H A at-mem run) W ((tt, tt, tt, a, at), tt) (both out) out (tt, (tt, (tt, tt))) (tt, (tt, (tt, tt)))) $ says ! e $ frame ! $
+      qed W (‵ ftrue ∷ []) ∵ suffices ! _ (ends-at 𝓤 H A this.ended stayed (this.clauses 𝓤 H A at-mem run) W ((tt, tt, tt, a, at), tt) (both out) out (tt, (tt, (tt, tt))) (tt, (tt, (tt, tt)))) $ says ! e $ frame ! $
       nothing ! $ owned ! u64 (Is u64) (uint-makes 𝓤 H A W w64) x _ (refl, x-fits) $ fjoin ! $ owned ! u32 (Is u32) (uint-makes 𝓤 H A W w32) w _ (refl, w-fits) $ fjoin ! $
       owned ! M′.the-row (Is M′.the-row) (LL.makes M′.the-type M″.the-plain 𝓤 H A) h _ is-h $ fjoin ! $
       owned ! O′.the-row (Is O′.the-row) (LL.makes O′.the-type O″.the-plain 𝓤 H A) out _ is $ move ! (1 ∷ 0 ∷ []) $ frame ! $ done !
@@ -146,7 +146,7 @@ module _ {M : Type 1} (𝓤 : URA M) (H : Heap 𝓤) (A : Atoms 𝓤) (W : Given
         nothing ! $ by ! (exits out e is)
 
   module _ (C : Calls 𝓤 H) (Λ : Loops 𝓤 H) (fm : FmC 𝓤 H (W .laws) C) (known : Triple 𝓤 (C #in-place·step) (InPlace 𝓤 H A at-mem run)) where
-    walk : ent 𝓤 (onEntry 𝓤 H A lent.signature tt tt a at) (WpFn 𝓤 H C Λ code.function (val h ∷ vint w32 w ∷ vint w64 x ∷ []) Post)
+    walk : ent 𝓤 (onEntry 𝓤 H A this.signature tt tt a at) (WpFn 𝓤 H C Λ code.function (val h ∷ vint w32 w ∷ vint w64 x ∷ []) Post)
     walk =
         qed W (‵ ftrue ∷ ‵ (owns (M′.the-row ∷ u32 ∷ u64 ∷ []) a at) ∷ []) ∵ enter ! C Λ code.function (val h ∷ vint w32 w ∷ vint w64 x ∷ []) _ $
         alloc1 ! (λ l₀. alloc1 ! (λ l₁. alloc1 ! (λ l₂. alloc1 ! (λ l₃. alloc1 ! (λ l₄. alloc1 ! (λ l₅. alloc1 ! (λ l₆. alloc1 ! (λ l₇. alloc0 ! $ params1 ! $
@@ -174,24 +174,24 @@ module _ {M : Type 1} (𝓤 : URA M) (H : Heap 𝓤) (A : Atoms 𝓤) (W : Given
         leaves C Λ l₀ l₁ l₂ l₃ l₄ l₅ l₆ l₇ (record { answer = r; machine = ws .0 }) (λ i. record { answer = e .0 i; machine = e .1 i }) is-m (made (record { answer = r; machine = ws .0 }) _ is is-m)))))))))))))))))
 
 module _ {M : Type 1} (𝓤 : URA M) (H : Heap 𝓤) (A : Atoms 𝓤) (W : Given 𝓤 H A) (at-mem : Memory → SProp 𝓤) (run : Routine → Fun 𝓤) where
-  lent-walks : (C : Calls 𝓤 H) (Λ : Loops 𝓤 H) → FmC 𝓤 H (W .laws) C → Triple 𝓤 (C #in-place·step) (InPlace 𝓤 H A at-mem run) → Walks 𝓤 H A lent.ended stayed (WpFn 𝓤 H C Λ code.function) (lent.clauses 𝓤 H A at-mem run)
-  lent-walks C Λ fm known = walked 𝓤 H A lent.ended stayed (lent.clauses 𝓤 H A at-mem run) (WpFn 𝓤 H C Λ code.function)
+  owned-walks : (C : Calls 𝓤 H) (Λ : Loops 𝓤 H) → FmC 𝓤 H (W .laws) C → Triple 𝓤 (C #in-place·step) (InPlace 𝓤 H A at-mem run) → Walks 𝓤 H A this.ended stayed (WpFn 𝓤 H C Λ code.function) (this.clauses 𝓤 H A at-mem run)
+  owned-walks C Λ fm known = walked 𝓤 H A this.ended stayed (this.clauses 𝓤 H A at-mem run) (WpFn 𝓤 H C Λ code.function)
       (λ κs. (LL.vals M′.the-type M″.the-laws, (uint-vals w32, (uint-vals w64, tt)))) (λ κs. (LL.tells M′.the-type M″.the-laws, (uint-tells w32, (uint-tells w64, tt))))
       (λ κs qs bounds a _ are. via 𝓤 _ (fst∗ 𝓤 _ (emp 𝓤)) (walk 𝓤 H A W at-mem run (a .0) (a .1 .0) (a .1 .1 .0) (are .0) (are .1 .0 .1) (are .1 .1 .0 .1) C Λ fm known))
 
-  goes : AllGo 𝓤 H A W 0 (lent.signature .params) (lent.ended .kept) stayed
+  goes : AllGo 𝓤 H A W 0 (this.signature .params) (this.ended .kept) stayed
   goes = (goes-none 𝓤 H A W 0 (λ _. M′.the-row) yes (λ κs y f. refl), (goes-none 𝓤 H A W 0 (λ _. u32) yes (λ κs y f. refl), (goes-none 𝓤 H A W 0 (λ _. u64) yes (λ κs y f. refl), tt)))
 
-lent-meets : {M : Type 1} (𝓤 : URA M) (H : Heap 𝓤) (A : Atoms 𝓤) → Given 𝓤 H A → (at-mem : Memory → SProp 𝓤) (run : Routine → Fun 𝓤) (𝓣 : Tables 𝓤 H) → Triple 𝓤 (𝓣 .C #in-place·step) (InPlace 𝓤 H A at-mem run)
-    → Meets 𝓤 H A lent.signature (WpFn 𝓤 H (𝓣 .C) (𝓣 .Λ) code.function) (lent.spec 𝓤 H A at-mem run)
-lent-meets 𝓤 H A W at-mem run 𝓣 known =
-    walk-meets 𝓤 H A lent.ended stayed W (goes 𝓤 H A W at-mem run) (lent.clauses 𝓤 H A at-mem run) (WpFn 𝓤 H (𝓣 .C) (𝓣 .Λ) code.function) (WpFn-mono 𝓤 H (W .laws) 𝓣 code.function)
-    (lent-walks 𝓤 H A W at-mem run (𝓣 .C) (𝓣 .Λ) (fmOf 𝓤 H (W .laws) 𝓣) known)
+owned-meets : {M : Type 1} (𝓤 : URA M) (H : Heap 𝓤) (A : Atoms 𝓤) → Given 𝓤 H A → (at-mem : Memory → SProp 𝓤) (run : Routine → Fun 𝓤) (𝓣 : Tables 𝓤 H) → Triple 𝓤 (𝓣 .C #in-place·step) (InPlace 𝓤 H A at-mem run)
+    → Meets 𝓤 H A this.signature (WpFn 𝓤 H (𝓣 .C) (𝓣 .Λ) code.function) (this.spec 𝓤 H A at-mem run)
+owned-meets 𝓤 H A W at-mem run 𝓣 known =
+    walk-meets 𝓤 H A this.ended stayed W (goes 𝓤 H A W at-mem run) (this.clauses 𝓤 H A at-mem run) (WpFn 𝓤 H (𝓣 .C) (𝓣 .Λ) code.function) (WpFn-mono 𝓤 H (W .laws) 𝓣 code.function)
+    (owned-walks 𝓤 H A W at-mem run (𝓣 .C) (𝓣 .Λ) (fmOf 𝓤 H (W .laws) 𝓣) known)
 
-pub lent-spec : {M : Type 1} → stated.statement M
+pub owned-spec : {M : Type 1} → stated.statement M
 unfolding code.routine tablesOf
-lent-spec 𝓤 H 𝓜 𝓖 𝓡 =
-    entered 𝓤 H (tripleOf 𝓤 H (𝓖 .A) lent.signature (lent.spec 𝓤 H (𝓖 .A) (𝓜 .mem) (𝓡 .run)))
-    (tables 𝓤 H 𝓜 𝓡 code.env .C) (tables 𝓤 H 𝓜 𝓡 code.env .Λ) #in-place·lent code.function (code.unfolded 𝓤 H 𝓜 𝓡)
-    (lent-meets 𝓤 H (𝓖 .A) (givenOf 𝓤 H 𝓜 𝓖) (𝓜 .mem) (𝓡 .run) (tablesOf 𝓤 H 𝓜 (tables 𝓤 H 𝓜 𝓡 code.env))
+owned-spec 𝓤 H 𝓜 𝓖 𝓡 =
+    entered 𝓤 H (tripleOf 𝓤 H (𝓖 .A) this.signature (this.spec 𝓤 H (𝓖 .A) (𝓜 .mem) (𝓡 .run)))
+    (tables 𝓤 H 𝓜 𝓡 code.env .C) (tables 𝓤 H 𝓜 𝓡 code.env .Λ) #in-place·owned code.function (code.unfolded 𝓤 H 𝓜 𝓡)
+    (owned-meets 𝓤 H (𝓖 .A) (givenOf 𝓤 H 𝓜 𝓖) (𝓜 .mem) (𝓡 .run) (tablesOf 𝓤 H 𝓜 (tables 𝓤 H 𝓜 𝓡 code.env))
     (cited 𝓤 H (InPlace 𝓤 H (𝓖 .A) (𝓜 .mem) (𝓡 .run)) 𝓜 𝓡 code.env #in-place·step step-def.routine code.calls-in-place·step (step-thm.met 𝓤 H 𝓜 𝓖 𝓡)))
