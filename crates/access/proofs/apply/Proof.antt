@@ -1,3 +1,4 @@
+-- `access::apply` meets its contract: a case for each branch, by the contracts of what it calls.
 use Rattle.rules.specs.Step.{apply}
 use borrow.Author.Needs.{needs}
 use Rattle.access.proofs.apply.Statement.{statement}

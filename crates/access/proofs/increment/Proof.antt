@@ -1,3 +1,4 @@
+-- `access::increment` meets its contract, by that of `counters::increment`.
 use Rattle.rules.specs.Step.{apply, incremented}
 use Rattle.rules.specs.Permitted.{increments}
 use Rattle.state.specs.State.{viewOf}

@@ -1,3 +1,4 @@
+-- `access::step` meets its contract.
 use mathlib.Core.Path.{_∙_, ap}
 use Rattle.rules.specs.Step.{decide, apply, step}
 use Rattle.access.proofs.step.Statement.{statement}

@@ -1,3 +1,4 @@
+-- `access::write_counter` meets its contract.
 use Rattle.rules.specs.Step.{apply}
 use Rattle.access.proofs.write_counter.Statement.{statement}
 use Rattle.access.proofs.write_counter.Tie as tie

@@ -1,3 +1,4 @@
+-- `command::command_of` meets its contract: a case for each branch, by the contracts of what it calls.
 use mathlib.Core.Path.{sym, _∙_}
 use native.Mathlib.Omega.{arith}
 use borrow.Author.Tests.{lt-ltb, le-ltb}

@@ -1,3 +1,4 @@
+-- `command::command_with` meets its contract: a case for each branch, by the contracts of what it calls.
 use mathlib.Core.Path.{sym, _∙_, ap, ap₂}
 use native.Mathlib.Omega.{arith}
 use borrow.Author.Tests.{ne-eqb}

@@ -1,3 +1,4 @@
+-- `command::eight` meets its contract.
 use native.Mathlib.Omega.{arith}
 use Rattle.command.proofs.Operands.{operand-split}
 use borrow.Author.Needs.{needs}

@@ -1,3 +1,4 @@
+-- `command::operand_bytes` meets its contract: a case for each branch, by the contracts of what it calls.
 use borrow.Author.Tests.{ne-eqb}
 use Rattle.command.proofs.operand_bytes.Statement.{statement}
 use Rattle.command.proofs.operand_bytes.Tie as tie

@@ -1,3 +1,4 @@
+-- `command::two` meets its contract.
 use Prim.Native.Nat.{_+_}
 use native.Mathlib.Omega.{arith}
 use Rattle.command.proofs.Operands.{operand-split, operand-one}

@@ -1,3 +1,4 @@
+-- `decide::decide` meets its contract: a case for each branch, by the contracts of what it calls.
 use mathlib.Core.Path.{sym, _∙_}
 use Rattle.rules.specs.Step.{decide}
 use borrow.Author.Needs.{needs}

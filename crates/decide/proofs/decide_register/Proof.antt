@@ -1,3 +1,4 @@
+-- `decide::decide_register` meets its contract: a case for each branch, by the contracts of what it calls.
 use borrow.Author.Needs.{needs}
 use Rattle.decide.proofs.decide_register.Statement.{statement}
 use Rattle.decide.proofs.decide_register.Tie as tie

@@ -1,3 +1,4 @@
+-- `decide::pmevcntr` meets its contract: a case for each branch, by the contracts of what it calls.
 use mathlib.Core.Path.{_∙_, ap}
 use Rattle.rules.proofs.Decided.{at-once, in-order}
 use Rattle.rules.specs.declared.Register.the-variants.{Pmevcntr}

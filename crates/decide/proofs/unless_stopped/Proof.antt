@@ -1,3 +1,4 @@
+-- `decide::unless_stopped` meets its contract: a case for each branch, by the contracts of what it calls.
 use borrow.Author.Needs.{needs}
 use Rattle.decide.proofs.unless_stopped.Statement.{statement}
 use Rattle.decide.proofs.unless_stopped.Tie as tie

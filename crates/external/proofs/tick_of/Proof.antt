@@ -1,3 +1,4 @@
+-- `external::tick_of` meets its contract: a case for each branch, by the contracts of what it calls.
 use Rattle.rules.specs.External.{tickOf}
 use Rattle.external.proofs.tick_of.Statement.{statement}
 use Rattle.external.proofs.tick_of.Tie as tie

@@ -1,3 +1,4 @@
+-- `external::with_cnten` meets its contract.
 use mathlib.Core.Path.{refl}
 use Rattle.external.proofs.with_cnten.Statement.{statement}
 use Rattle.external.proofs.with_cnten.Tie as tie

@@ -1,3 +1,4 @@
+-- `external::write` meets its contract: a case for each branch, by the contracts of what it calls.
 use mathlib.Core.Path.{sym, _∙_, ap}
 use Rattle.state.specs.State.{verdictOf}
 use Rattle.rules.specs.External.{externalWrite}

@@ -1,3 +1,4 @@
+-- `line::answer_text` meets its contract: a case for each branch, by the contracts of what it calls.
 use native.Mathlib.Omega.{arith}
 use Rattle.line.specs.Line.{textOf}
 use borrow.Author.Needs.{needs}

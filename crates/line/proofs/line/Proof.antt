@@ -1,3 +1,4 @@
+-- `line::line` meets its contract.
 use native.Mathlib.Omega.{arith}
 use Rattle.line.specs.Line.{lineOf}
 use Rattle.text.proofs.Digits.{decimal-short}

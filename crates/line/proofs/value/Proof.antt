@@ -1,3 +1,4 @@
+-- `line::value` meets its contract.
 use native.Mathlib.Omega.{arith}
 use Rattle.line.specs.Line.{textOf}
 use Rattle.text.proofs.Digits.{length-hex}

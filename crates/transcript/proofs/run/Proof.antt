@@ -1,3 +1,4 @@
+-- `transcript::run` meets its contract: its loop keeps the invariant, which at the end says the definition.
 use borrow.Author.Needs.{needs}
 use Prim.Native.Nat.{_-_}
 use mathlib.Core.Path.{_∙_}

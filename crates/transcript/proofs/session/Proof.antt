@@ -1,3 +1,4 @@
+-- `transcript::session` meets its contract: a case for each branch, by the contracts of what it calls.
 use Prim.Native.Nat.{ℕ}
 use mathlib.Core.List.{List}
 use mathlib.Core.Path.{subst}

@@ -1,3 +1,4 @@
+-- `traps::counter_order` meets its contract.
 use mathlib.Core.Path.{sym}
 use Rattle.rules.specs.Traps.{counterOrder}
 use Rattle.traps.proofs.counter_order.Statement.{statement}

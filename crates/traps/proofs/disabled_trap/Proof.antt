@@ -1,3 +1,4 @@
+-- `traps::disabled_trap` meets its contract: a case for each branch, by the contracts of what it calls.
 use Rattle.rules.specs.Traps.{disabledTrap}
 use Rattle.traps.proofs.disabled_trap.Statement.{statement}
 use Rattle.traps.proofs.disabled_trap.Tie as tie

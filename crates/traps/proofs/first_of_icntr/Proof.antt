@@ -1,3 +1,4 @@
+-- `traps::first_of_icntr` meets its contract: a case for each branch, by the contracts of what it calls.
 use Rattle.rules.specs.Traps.{firstOfIcntr}
 use Rattle.traps.proofs.first_of_icntr.Statement.{statement}
 use Rattle.traps.proofs.first_of_icntr.Tie as tie

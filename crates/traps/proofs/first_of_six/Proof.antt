@@ -1,3 +1,4 @@
+-- `traps::first_of_six` meets its contract: a case for each branch, by the contracts of what it calls.
 use Rattle.rules.specs.Traps.{firstOfSix}
 use Rattle.traps.proofs.first_of_six.Statement.{statement}
 use Rattle.traps.proofs.first_of_six.Tie as tie

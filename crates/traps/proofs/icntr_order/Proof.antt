@@ -1,3 +1,4 @@
+-- `traps::icntr_order` meets its contract.
 use mathlib.Core.Path.{sym}
 use Rattle.rules.specs.Traps.{icntrOrder}
 use Rattle.traps.proofs.icntr_order.Statement.{statement}

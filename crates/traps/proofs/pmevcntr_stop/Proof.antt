@@ -1,3 +1,4 @@
+-- `traps::pmevcntr_stop` meets its contract.
 use mathlib.Core.Path.{sym}
 use Rattle.rules.specs.Traps.{pmevcntrStop}
 use Rattle.traps.proofs.pmevcntr_stop.Statement.{statement}

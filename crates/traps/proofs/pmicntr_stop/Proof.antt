@@ -1,3 +1,4 @@
+-- `traps::pmicntr_stop` meets its contract.
 use mathlib.Core.Path.{sym}
 use Rattle.rules.specs.Traps.{pmicntrStop}
 use Rattle.traps.proofs.pmicntr_stop.Statement.{statement}

@@ -1,3 +1,4 @@
+-- `traps::pmswinc_stop` meets its contract.
 use Rattle.rules.specs.Traps.{pmswincStop}
 use Rattle.traps.proofs.pmswinc_stop.Statement.{statement}
 use Rattle.traps.proofs.pmswinc_stop.Tie as tie

@@ -1,3 +1,4 @@
+-- `traps::stop_at_el3` meets its contract: a case for each branch, by the contracts of what it calls.
 use Rattle.rules.specs.Traps.{stopAtEl3}
 use Rattle.traps.proofs.stop_at_el3.Statement.{statement}
 use Rattle.traps.proofs.stop_at_el3.Tie as tie

@@ -1,3 +1,4 @@
+-- `access::counters::held` meets its contract: a case for each branch, by the contracts of what it calls.
 use mathlib.Core.Path.{sym}
 use native.Mathlib.Nat.{mod-eq-of-lt}
 use Rattle.access.proofs.counters.held.Statement.{statement}

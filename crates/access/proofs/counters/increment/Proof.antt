@@ -1,3 +1,4 @@
+-- `access::counters::increment` meets its contract: its loop keeps the invariant, which at the end says the definition.
 use Prim.Native.Nat.{_≤_, _-_, _/_, _^_}
 use mathlib.Core.Path.{_≡_, refl, sym, _∙_}
 use native.Mathlib.Omega.{arith}

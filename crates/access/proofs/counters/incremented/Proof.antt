@@ -1,3 +1,4 @@
+-- `access::counters::incremented` meets its contract: a case for each branch, by the contracts of what it calls.
 use Rattle.access.proofs.counters.incremented.Statement.{statement}
 use Rattle.access.proofs.counters.incremented.Tie as tie
 

@@ -1,3 +1,4 @@
+-- `access::counters::plus_one` meets its contract.
 use Prim.Native.Nat.{_%_, _^_}
 use mathlib.Core.Path.{_∙_, ap}
 use Rattle.rules.specs.Step.{width}

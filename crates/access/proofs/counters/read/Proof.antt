@@ -1,3 +1,4 @@
+-- `access::counters::read` meets its contract: a case for each branch, by the contracts of what it calls.
 use mathlib.Core.Path.{sym}
 use lib.ListN.{List·getD-eq-default}
 use borrow.Author.Needs.{needs}

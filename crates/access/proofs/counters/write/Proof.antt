@@ -1,3 +1,4 @@
+-- `access::counters::write` meets its contract: a case for each branch, by the contracts of what it calls.
 use mathlib.Core.Path.{sym}
 use native.Mathlib.Omega.{arith}
 use lib.Seq.{set-out}

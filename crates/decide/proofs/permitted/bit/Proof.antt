@@ -1,3 +1,4 @@
+-- `decide::permitted::bit` meets its contract: a case for each branch, by the contracts of what it calls.
 use mathlib.Core.Path.{sym}
 use Rattle.rules.proofs.Bits.{high-bit}
 use borrow.Author.Needs.{needs}

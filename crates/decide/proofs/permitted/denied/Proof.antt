@@ -1,3 +1,4 @@
+-- `decide::permitted::denied` meets its contract.
 use Rattle.decide.proofs.permitted.denied.Statement.{statement}
 use Rattle.decide.proofs.permitted.denied.Tie as tie
 

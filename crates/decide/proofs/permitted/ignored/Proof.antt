@@ -1,3 +1,4 @@
+-- `decide::permitted::ignored` meets its contract.
 use Rattle.decide.proofs.permitted.ignored.Statement.{statement}
 use Rattle.decide.proofs.permitted.ignored.Tie as tie
 

@@ -1,3 +1,4 @@
+-- `decide::permitted::pmevcntr_access` meets its contract: a case for each branch, by the contracts of what it calls.
 use mathlib.Core.Path.{sym, _∙_}
 use Rattle.rules.specs.Permitted.{pmevcntrAccess}
 use Rattle.decide.proofs.permitted.pmevcntr_access.Statement.{statement}

@@ -1,3 +1,4 @@
+-- `decide::permitted::pmicntr_access` meets its contract: a case for each branch, by the contracts of what it calls.
 use mathlib.Core.Path.{sym, _∙_}
 use Rattle.rules.specs.Permitted.{pmicntrAccess}
 use Rattle.decide.proofs.permitted.pmicntr_access.Statement.{statement}

@@ -1,3 +1,4 @@
+-- `external::enables::low_bits` meets its contract: a case for each branch, by the contracts of what it calls.
 use Prim.Native.Nat.{_%_}
 use mathlib.Core.Path.{sym, _∙_, ap}
 use native.Mathlib.Omega.{arith}

@@ -1,3 +1,4 @@
+-- `external::enables::shown_of` meets its contract: a case for each branch, by the contracts of what it calls.
 use mathlib.Core.Bool.{_&&_}
 use mathlib.Core.Path.{sym}
 use native.Mathlib.Nat.{add-zero}

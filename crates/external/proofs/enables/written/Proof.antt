@@ -1,3 +1,4 @@
+-- `external::enables::written` meets its contract.
 use mathlib.Core.Path.{sym}
 use Rattle.rules.proofs.Enables.{written-union}
 use Rattle.external.proofs.enables.written.Statement.{statement}

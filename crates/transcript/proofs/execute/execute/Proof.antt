@@ -1,3 +1,4 @@
+-- `transcript::execute::execute` meets its contract: a case for each branch, by the contracts of what it calls.
 use Rattle.transcript.specs.Session.{execute}
 use borrow.Author.Needs.{needs}
 use Rattle.transcript.proofs.execute.execute.Statement.{statement}

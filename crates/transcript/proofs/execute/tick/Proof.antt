@@ -1,3 +1,4 @@
+-- `transcript::execute::tick` meets its contract: a case for each branch, by the contracts of what it calls.
 use borrow.Author.Tests.{lt-ltb, le-ltb}
 use Rattle.transcript.specs.Session.{execute}
 use borrow.Author.Needs.{needs}

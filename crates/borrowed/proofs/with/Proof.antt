@@ -1,8 +1,8 @@
--- `borrow::with`: the record of what the set command returns.
+-- `borrowed::with`: the record of what the set command returns.
 use mathlib.Core.Path.{ap}
 use Rattle.machine.specs.declared.Outcome.{Outcome}
-use Rattle.borrow.proofs.with.Statement.{statement}
-use Rattle.borrow.proofs.with.Tie as tie
+use Rattle.borrowed.proofs.with.Statement.{statement}
+use Rattle.borrowed.proofs.with.Tie as tie
 
 returns : tie.Need-returns
 returns c = ap (λ (o : Outcome). o .machine) (c .before .set .ensures)

@@ -1,10 +1,10 @@
--- `borrow::start`: the contracts of the calls, one inside the other.
+-- `borrowed::start`: the contracts of the calls, one inside the other.
 use mathlib.Core.Path.{_∙_, ap}
 use Rattle.fields.specs.Set.{set, setLevel}
 use Rattle.machine.specs.declared.Machine.{Machine}
 use Rattle.machine.specs.declared.Outcome.{Outcome}
-use Rattle.borrow.proofs.start.Statement.{statement}
-use Rattle.borrow.proofs.start.Tie as tie
+use Rattle.borrowed.proofs.start.Statement.{statement}
+use Rattle.borrowed.proofs.start.Tie as tie
 
 returns : tie.Need-returns
 returns c =

@@ -1,8 +1,8 @@
--- `borrow::access`: the record of what `in_place::owned` returns.
+-- `borrowed::access`: the record of what `in_place::owned` returns.
 use mathlib.Core.Path.{ap}
 use Rattle.machine.specs.declared.Outcome.{Outcome}
-use Rattle.borrow.proofs.access.Statement.{statement}
-use Rattle.borrow.proofs.access.Tie as tie
+use Rattle.borrowed.proofs.access.Statement.{statement}
+use Rattle.borrowed.proofs.access.Tie as tie
 
 returns : tie.Need-returns
 returns c = ap (λ (o : Outcome). o .machine) (c .before .before .owned .ensures)
