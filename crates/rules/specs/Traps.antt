@@ -71,9 +71,9 @@ stopAtEl3 v = cond (haltedSdd v) Stop.Undef (Stop.Trap El3)
 
 -- "PMEVCNTR and PMSWINC, first that applies", on the six rules' tests and the two stops that depend on the view
 unfoldable pub firstOfSix : Bool → Bool → Bool → Bool → Bool → Bool → Stop → Stop → Stop
-firstOfSix r1 r2 r3 r4 r5 r6 gate el3 =
+firstOfSix r1 r2 r3 r4 r5 r6 disabled el3 =
     cond r1 Stop.Undef
-    (cond r2 gate
+    (cond r2 disabled
     (cond r3 (Stop.Trap El2)
     (cond r4 (Stop.Trap El2)
     (cond r5 (Stop.Trap El2)
@@ -102,8 +102,9 @@ unfoldable pub pmswincStop : View → Stop
 pmswincStop v =
     counterOrder v (not (v .settings .pmuserenr .en) && not (v .settings .pmuserenr .sw)) (v .settings .hdfgwtr .pmswinc) false
 
--- The rules for PMICNTR have numbers here by their place; its fourth is rule 4 and its sixth rule 6. The first: "levels 0 to 2, Halted, SDD and trap priority all 1, and at least one of EnPM2 0 and MDCR_EL3.TPM 1:
--- undefined"
+-- The rules for PMICNTR have numbers here by their place; its fourth is rule 4 and its sixth rule 6.
+
+-- "levels 0 to 2, Halted, SDD and trap priority all 1, and at least one of EnPM2 0 and MDCR_EL3.TPM 1: undefined"
 abbrev pub icntrRule1 : View → Bool
 icntrRule1 v =
     haveEl3 v
