@@ -3,6 +3,7 @@ pub mod enables; // enables.rt: the enable bits that the register shows and sets
 
 ghost use mathlib.Core.Path.{_≡_};
 ghost use Rattle.machine.specs.Machine.{withCnten};
+ghost use Rattle.state.specs.State.{viewOf, verdictOf};
 ghost use Rattle.rules.specs.External.{unreachable, readOf, externalRead, writeOf, externalWrite, tickOf, tick};
 use answer::Answer;
 use machine::Machine;
@@ -118,11 +119,18 @@ fn tick_of(prohibited: bool, r: Machine) -> Outcome
     }
 }
 
+// The state test that comes before all else.
+fn verdict(r: Machine) -> Verdict
+    ensures { λ v. ⌜ v ≡ verdictOf (viewOf r) ⌝ }
+{
+    state::verdict_of(state::view_of(r))
+}
+
 // An external read at an offset.
 pub fn read(offset: u16, r: Machine) -> Outcome
     ensures { λ o. ⌜ o ≡ externalRead offset r ⌝ }
 {
-    match state::verdict_of(state::view_of(r)) {
+    match verdict(r) {
         Verdict::Refused(n) => Outcome {
             answer: Answer::Refused(n),
             machine: r,
@@ -135,7 +143,7 @@ pub fn read(offset: u16, r: Machine) -> Outcome
 pub fn write(offset: u16, x: u64, r: Machine) -> Outcome
     ensures { λ o. ⌜ o ≡ externalWrite offset x r ⌝ }
 {
-    match state::verdict_of(state::view_of(r)) {
+    match verdict(r) {
         Verdict::Refused(n) => Outcome {
             answer: Answer::Refused(n),
             machine: r,
@@ -148,7 +156,7 @@ pub fn write(offset: u16, x: u64, r: Machine) -> Outcome
 pub fn tick(prohibited: bool, r: Machine) -> Outcome
     ensures { λ o. ⌜ o ≡ tick prohibited r ⌝ }
 {
-    match state::verdict_of(state::view_of(r)) {
+    match verdict(r) {
         Verdict::Refused(n) => Outcome {
             answer: Answer::Refused(n),
             machine: r,
