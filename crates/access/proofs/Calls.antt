@@ -1,7 +1,7 @@
 -- Noninterference of the code: two runs of calls of `access::step`, of which nothing is known but what its contract ensures of each
 -- result, answer alike and keep the hidden counters. The entry with the record lent ensures the same of the record behind it.
 use Prim.Native.Nat.{ℕ}
-use mathlib.Core.Bool.{Bool, true, not, _&&_}
+use mathlib.Core.Bool.{Bool, true}
 use mathlib.Core.List.{List, [], _∷_}
 use mathlib.Core.Path.{_≡_, refl, sym, _∙_, ap, subst, subst₂}
 use Rattle.answer.specs.declared.Answer.{Answer}
@@ -9,7 +9,7 @@ use Rattle.machine.specs.declared.Machine.{Machine}
 use Rattle.machine.specs.declared.Outcome.{Outcome}
 use Rattle.machine.specs.declared.Settings.{Settings}
 use Rattle.machine.specs.Machine.{withLevel}
-use Rattle.rules.specs.Isolation.{SameExcept, Kept, Named, Isolated, Start, fromLevels, Claim, fromHpmn, withoutP, instructionCounter}
+use Rattle.rules.specs.Isolation.{SameExcept, Kept, Named, Isolated, Start, fromLevels, Claim, fromHpmn, withoutP, instructionCounter, hpmnHides, pmuacrHides, f0Hides}
 use Rattle.rules.proofs.Isolation.{noninterference}
 use Rattle.rules.specs.Step.{Access, step, access, run}
 
@@ -79,14 +79,14 @@ calls-claim top named when claim r₁ r₂ accesses s₁ s₂ w l e after₁ aft
 
 -- demand 3, whole, of the calls of the code
 pub record CallsNoninterference : Type 0 where
-  pub hpmn : CallsClaim 1 fromHpmn (λ s. s .execution .el2enabled)
-  pub pmuacr : CallsClaim 0 withoutP (λ s. s .features .p9 && s .pmuserenr .uen && not (s .pmuserenr .sw))
-  pub f0 : CallsClaim 0 instructionCounter (λ s. not (s .pmuacr .f0))
+  pub hpmn : CallsClaim 1 fromHpmn hpmnHides
+  pub pmuacr : CallsClaim 0 withoutP pmuacrHides
+  pub f0 : CallsClaim 0 instructionCounter f0Hides
 
 pub calls-noninterference : CallsNoninterference
 calls-noninterference =
     record {
-      hpmn = calls-claim 1 fromHpmn (λ s. s .execution .el2enabled) (noninterference .hpmn);
-      pmuacr = calls-claim 0 withoutP (λ s. s .features .p9 && s .pmuserenr .uen && not (s .pmuserenr .sw)) (noninterference .pmuacr);
-      f0 = calls-claim 0 instructionCounter (λ s. not (s .pmuacr .f0)) (noninterference .f0);
+      hpmn = calls-claim 1 fromHpmn hpmnHides (noninterference .hpmn);
+      pmuacr = calls-claim 0 withoutP pmuacrHides (noninterference .pmuacr);
+      f0 = calls-claim 0 instructionCounter f0Hides (noninterference .f0);
     }

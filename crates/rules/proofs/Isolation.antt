@@ -16,7 +16,7 @@ use Rattle.state.specs.State.{viewOf}
 use Rattle.state.proofs.Consistent.{not-wide}
 use Rattle.fields.proofs.Below.{and-left, and-right}
 use Rattle.rules.specs.declared.Decision.{Decision}
-use Rattle.rules.specs.Isolation.{Named, Kept, Start, fromLevels, Isolated, Claim, fromHpmn, withoutP, instructionCounter, Noninterference}
+use Rattle.rules.specs.Isolation.{Named, Kept, Start, fromLevels, Isolated, Claim, fromHpmn, withoutP, instructionCounter, Noninterference, hpmnHides, pmuacrHides, f0Hides}
 use Rattle.rules.specs.Step.{Access, decide, apply, step, access, run}
 use Rattle.rules.proofs.Alike.{Sound, Alike, Hides, view-alike, answers-alike, stays-alike, kept-by}
 use Rattle.rules.proofs.Applied.{settings-stay}
@@ -127,13 +127,13 @@ all-three a b c e =
     (and-left a b (and-left (a && b) c e), and-right a b (and-left (a && b) c e), and-right (a && b) c e)
 
 hpmn-hides :
-    (v : View) → v .settings .execution .el2enabled ≡ true → leb (v .level) 1 ≡ true
+    (v : View) → hpmnHides (v .settings) ≡ true → leb (v .level) 1 ≡ true
     → (w y : ℕ)
     → Hides (fromHpmn (v .settings)) v (decide v w y)
 hpmn-hides v e low w y = record { counter = λ i n. hpmn-hidden v i e low n w y; instructions = λ n. cc }
 
 pmuacr-hides :
-    (v : View) → v .settings .features .p9 && v .settings .pmuserenr .uen && not (v .settings .pmuserenr .sw) ≡ true
+    (v : View) → pmuacrHides (v .settings) ≡ true
     → leb (v .level) 0 ≡ true
     → (w y : ℕ)
     → Hides (withoutP (v .settings)) v (decide v w y)
@@ -145,7 +145,7 @@ pmuacr-hides v e low w y =
     }
 
 f0-hides :
-    (v : View) → not (v .settings .pmuacr .f0) ≡ true → leb (v .level) 0 ≡ true
+    (v : View) → f0Hides (v .settings) ≡ true → leb (v .level) 0 ≡ true
     → (w y : ℕ)
     → Hides (instructionCounter (v .settings)) v (decide v w y)
 f0-hides v e low w y =
@@ -155,7 +155,7 @@ f0-hides v e low w y =
 pub noninterference : Noninterference
 noninterference =
     record {
-      hpmn = claim 1 fromHpmn (λ s. s .execution .el2enabled) hpmn-hides;
-      pmuacr = claim 0 withoutP (λ s. s .features .p9 && s .pmuserenr .uen && not (s .pmuserenr .sw)) pmuacr-hides;
-      f0 = claim 0 instructionCounter (λ s. not (s .pmuacr .f0)) f0-hides;
+      hpmn = claim 1 fromHpmn hpmnHides hpmn-hides;
+      pmuacr = claim 0 withoutP pmuacrHides pmuacr-hides;
+      f0 = claim 0 instructionCounter f0Hides f0-hides;
     }

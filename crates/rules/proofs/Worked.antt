@@ -20,20 +20,22 @@ use Rattle.rules.specs.Further.{further}
 abbrev Hold : List Example → Type 0
 Hold l = map actual l ≡ map expected l
 
+-- each of the three lists, computed
+hold : Hold worked × Hold misreadings × Hold further
+unfolding largest set withCnten viewOf tooLarge verdictOf store storeSettings storeFeatures storeMdcr2 storePmuacr named register written syndrome disabledTrap stopAtEl3 firstOfSix firstOfIcntr icntrOrder counterOrder pmevcntrStop pmswincStop pmicntrStop pmevcntrAccess pmicntrAccess increments decideRegister decide incremented apply step fromBits shownOf enablesWritten readOf externalRead writeOf externalWrite tickOf tick perform performAll setAll usual start actual expected worked misreadings further
+hold = (refl, refl, refl)
+
 -- 01, "Soundings to prove"
 pub worked-hold : Hold worked
-unfolding largest set withCnten viewOf tooLarge verdictOf store storeSettings storeFeatures storeMdcr2 storePmuacr named register written syndrome disabledTrap stopAtEl3 firstOfSix firstOfIcntr icntrOrder counterOrder pmevcntrStop pmswincStop pmicntrStop pmevcntrAccess pmicntrAccess increments decideRegister decide incremented apply step fromBits shownOf enablesWritten readOf externalRead writeOf externalWrite tickOf tick perform performAll setAll usual start actual expected worked
-worked-hold = refl
+worked-hold = hold .0
 
 -- 01, "Readings that would run aground"
 pub misreadings-hold : Hold misreadings
-unfolding largest set withCnten viewOf tooLarge verdictOf store storeSettings storeFeatures storeMdcr2 storePmuacr named register written syndrome disabledTrap stopAtEl3 firstOfSix firstOfIcntr icntrOrder counterOrder pmevcntrStop pmswincStop pmicntrStop pmevcntrAccess pmicntrAccess increments decideRegister decide incremented apply step fromBits shownOf enablesWritten readOf externalRead writeOf externalWrite tickOf tick perform performAll setAll usual start actual expected misreadings
-misreadings-hold = refl
+misreadings-hold = hold .1
 
 -- the rules that those do not reach
 pub further-hold : Hold further
-unfolding largest set withCnten viewOf tooLarge verdictOf store storeSettings storeFeatures storeMdcr2 storePmuacr named register written syndrome disabledTrap stopAtEl3 firstOfSix firstOfIcntr icntrOrder counterOrder pmevcntrStop pmswincStop pmicntrStop pmevcntrAccess pmicntrAccess increments decideRegister decide incremented apply step fromBits shownOf enablesWritten readOf externalRead writeOf externalWrite tickOf tick perform performAll setAll usual start actual expected further
-further-hold = refl
+further-hold = hold .2
 
 -- every set command of the examples is one that is not refused
 pub settings-valid : allValid (worked ++ misreadings ++ further) ≡ true

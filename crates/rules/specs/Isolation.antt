@@ -74,11 +74,18 @@ withoutP s = record { counter = λ m. not (bit m (s .pmuacr .p)); instructions =
 abbrev pub instructionCounter : Settings → Named
 instructionCounter s = record { counter = λ m. false; instructions = true }
 
--- demand 3, whole: a noninterference claim
+-- the settings with which these counters are hidden: EL2 enabled; p9 present, UEN 1 and SW 0; F0 0
+abbrev pub hpmnHides : Settings → Bool
+hpmnHides s = s .execution .el2enabled
+
+abbrev pub pmuacrHides : Settings → Bool
+pmuacrHides s = s .features .p9 && s .pmuserenr .uen && not (s .pmuserenr .sw)
+
+abbrev pub f0Hides : Settings → Bool
+f0Hides s = not (s .pmuacr .f0)
+
+-- demand 3, whole: a noninterference claim, for accesses from EL0 and EL1, from EL0, and from EL0
 pub record Noninterference : Type 0 where
-  -- EL2 enabled, accesses from EL0 and EL1
-  pub hpmn : Claim 1 fromHpmn (λ s. s .execution .el2enabled)
-  -- p9 present, UEN 1 and SW 0, accesses from EL0
-  pub pmuacr : Claim 0 withoutP (λ s. s .features .p9 && s .pmuserenr .uen && not (s .pmuserenr .sw))
-  -- F0 0, accesses from EL0
-  pub f0 : Claim 0 instructionCounter (λ s. not (s .pmuacr .f0))
+  pub hpmn : Claim 1 fromHpmn hpmnHides
+  pub pmuacr : Claim 0 withoutP pmuacrHides
+  pub f0 : Claim 0 instructionCounter f0Hides
