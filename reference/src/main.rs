@@ -2,13 +2,7 @@
 //! clearance trainer". It runs sessions, turns the notation into bytes and
 //! back, makes pseudo-random sessions, and prints hashes of their outputs.
 
-mod generate;
-mod model;
-mod notation;
-mod session;
-#[cfg(test)]
-mod tests;
-
+use reference::{generate, notation, session};
 use std::fs;
 use std::io::{self, Read, Write};
 use std::path::{Path, PathBuf};
