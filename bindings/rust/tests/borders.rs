@@ -1,0 +1,41 @@
+//! The declarations agree with the library, at the borders of both slices.
+
+use pmu::{room, session, Short, ROOM};
+
+/// The lines of a session.
+fn lines(input: &[u8]) -> String {
+    let mut out = vec![0xAA; ROOM];
+    let text = session(input, &mut out).expect("room").to_vec();
+    assert!(out[text.len()..].iter().all(|&b| b == 0xAA), "more than the output was written");
+    String::from_utf8(text).expect("ASCII")
+}
+
+#[test]
+fn the_constant_is_the_library_s() {
+    assert_eq!(room(), ROOM);
+}
+
+#[test]
+fn a_short_buffer_is_left_alone() {
+    let mut out = vec![0xAA; ROOM - 1];
+    assert_eq!(session(&[0], &mut out), Err(Short));
+    assert_eq!(session(&[0], &mut []), Err(Short));
+    assert!(out.iter().all(|&b| b == 0xAA));
+}
+
+#[test]
+fn no_bytes_and_too_many() {
+    assert_eq!(lines(&[]), "1 refused 2\n");
+    assert_eq!(lines(&[0; 4096]), "1 end\n");
+    assert_eq!(lines(&[0; 4097]), "0 refused 6\n");
+    assert_eq!(lines(&vec![0; 1 << 20]), "0 refused 6\n");
+}
+
+#[test]
+fn the_longest_output() {
+    let mut input = [4, 0x00, 0x0C].repeat(1365);
+    input.push(0);
+    let text = lines(&input);
+    assert_eq!(text.len(), 37_122);
+    assert!(text.ends_with("1365 value 0000000000000000\n1366 end\n"));
+}
