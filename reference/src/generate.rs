@@ -384,13 +384,13 @@ impl Writer {
 }
 
 /// The word of MRS or MSR with op0 3 and op1 3.
-fn word(read: bool, crn: u32, crm: u32, op2: u32, rt: u32) -> u32 {
+pub fn word(read: bool, crn: u32, crm: u32, op2: u32, rt: u32) -> u32 {
     let base = if read { 0xD53B_0000 } else { 0xD51B_0000 };
     base | crn << 12 | crm << 8 | op2 << 5 | rt
 }
 
 /// The word of a counter access.
-fn counter_word(read: bool, m: u32, rt: u32) -> u32 {
+pub fn counter_word(read: bool, m: u32, rt: u32) -> u32 {
     word(read, 14, 8 + m / 8, m % 8, rt)
 }
 

@@ -2,6 +2,7 @@
 //! trainer", written from the document alone: a library, so that a comparison
 //! can run it beside another program, and the program `reference` over it.
 
+pub mod directed;
 pub mod generate;
 pub mod model;
 pub mod notation;

@@ -1,8 +1,9 @@
 //! A reference program for document 01, "Counter register access for the
 //! clearance trainer". It runs sessions, turns the notation into bytes and
-//! back, makes pseudo-random sessions, and prints hashes of their outputs.
+//! back, makes pseudo-random and directed sessions, and prints hashes of their
+//! outputs.
 
-use reference::{generate, notation, session};
+use reference::{directed, generate, notation, session};
 use std::fs;
 use std::io::{self, Read, Write};
 use std::path::{Path, PathBuf};
@@ -13,6 +14,7 @@ const USAGE: &str = "usage:
   reference assemble [FILE]            notation to bytes
   reference disassemble [FILE]         bytes to notation
   reference generate SEED COUNT DIR    write DIR/NNNNNN.bin
+  reference directed DIR               write DIR/NAME.bin, the directed sessions
   reference check DIR                  print a hash of each session's output";
 
 fn main() -> ExitCode {
@@ -26,6 +28,7 @@ fn main() -> ExitCode {
         ["disassemble"] => disassemble(None),
         ["disassemble", file] => disassemble(Some(file)),
         ["generate", seed, count, directory] => generate(seed, count, directory),
+        ["directed", directory] => directed(directory),
         ["check", directory] => check(directory),
         _ => Err(USAGE.to_string()),
     };
@@ -79,6 +82,15 @@ fn generate(seed: &str, count: &str, directory: &str) -> Result<(), String> {
         let path = Path::new(directory).join(format!("{index:06}.bin"));
         let bytes = generate::session(seed, index);
         fs::write(&path, bytes).map_err(|e| format!("{}: {e}", path.display()))?;
+    }
+    Ok(())
+}
+
+fn directed(directory: &str) -> Result<(), String> {
+    fs::create_dir_all(directory).map_err(|e| format!("{directory}: {e}"))?;
+    for session in directed::all() {
+        let path = Path::new(directory).join(format!("{}.bin", session.name));
+        fs::write(&path, session.bytes).map_err(|e| format!("{}: {e}", path.display()))?;
     }
     Ok(())
 }

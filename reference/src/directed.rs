@@ -1,0 +1,48 @@
+//! Directed sessions: for each rule of document 01 the situations in which it
+//! applies and those beside it, where exactly one of its conditions is flipped
+//! or a second rule applies too. They are made from tables, one subject a file,
+//! and are the same every time. Most end by reading what may have changed.
+
+mod counters;
+mod external;
+mod fields;
+mod icntr;
+mod input;
+mod script;
+mod state;
+mod swinc;
+#[cfg(test)]
+mod tests;
+mod traps;
+mod values;
+mod words;
+mod worked;
+
+/// A session and the name of its file, without the ending.
+pub struct Session {
+    pub name: String,
+    pub bytes: Vec<u8>,
+}
+
+impl Session {
+    fn new(name: impl Into<String>, bytes: Vec<u8>) -> Session {
+        Session { name: name.into(), bytes }
+    }
+}
+
+/// All directed sessions.
+pub fn all() -> Vec<Session> {
+    let subjects = [
+        input::sessions,
+        values::sessions,
+        state::sessions,
+        words::sessions,
+        traps::sessions,
+        icntr::sessions,
+        counters::sessions,
+        swinc::sessions,
+        external::sessions,
+        worked::sessions,
+    ];
+    subjects.iter().flat_map(|sessions| sessions()).collect()
+}

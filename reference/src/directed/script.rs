@@ -1,0 +1,232 @@
+//! Writes one directed session, command by command. It keeps the values that
+//! it has set, so that a change can be taken back, and knows no rule of 01.
+
+use super::fields::*;
+use crate::generate::{counter_word, word};
+
+/// A field, or LEVEL, and the value it is given.
+pub type Change = (u8, u64);
+
+/// A field with the two values between which a table of subsets switches it.
+pub type Switch = (u8, u64, u64);
+
+/// Offset of the external PMCNTENSET_EL0.
+pub const PMCNTENSET: u16 = 0xC00;
+
+/// The accesses that 01 has rules for.
+#[derive(Clone, Copy, PartialEq, Eq)]
+pub enum Kind {
+    CounterRead,
+    CounterWrite,
+    Swinc,
+    IcntrRead,
+    IcntrWrite,
+}
+
+impl Kind {
+    pub fn name(self) -> &'static str {
+        match self {
+            Kind::CounterRead => "counter-read",
+            Kind::CounterWrite => "counter-write",
+            Kind::Swinc => "pmswinc",
+            Kind::IcntrRead => "pmicntr-read",
+            Kind::IcntrWrite => "pmicntr-write",
+        }
+    }
+}
+
+/// A session in the making.
+pub struct Script {
+    bytes: Vec<u8>,
+    values: [u64; 256],
+    /// Operand of the last write, another one each time.
+    serial: u64,
+}
+
+// Single commands.
+impl Script {
+    /// A session that starts by setting the record as given.
+    pub fn new(given: &[Change]) -> Script {
+        let mut script = Script { bytes: Vec::new(), values: [0; 256], serial: 0x1000 };
+        script.put(given);
+        script
+    }
+
+    /// A set or level command that is not refused.
+    pub fn set(&mut self, field: u8, value: u64) {
+        self.values[field as usize] = value;
+        if field == LEVEL {
+            self.bytes.extend([0x02, value as u8]);
+        } else {
+            self.set_refused(field, value);
+        }
+    }
+
+    /// A set command that is refused.
+    pub fn set_refused(&mut self, field: u8, value: u64) {
+        self.bytes.extend([0x01, field]);
+        self.bytes.extend(value.to_le_bytes());
+    }
+
+    /// A level command that is not refused.
+    pub fn level(&mut self, level: u8) {
+        self.set(LEVEL, level as u64);
+    }
+
+    /// A level command that is refused.
+    pub fn level_refused(&mut self, level: u8) {
+        self.bytes.extend([0x02, level]);
+    }
+
+    pub fn access(&mut self, word: u32, operand: u64) {
+        self.bytes.push(0x03);
+        self.bytes.extend(word.to_le_bytes());
+        self.bytes.extend(operand.to_le_bytes());
+    }
+
+    pub fn external_read(&mut self, offset: u16) {
+        self.bytes.push(0x04);
+        self.bytes.extend(offset.to_le_bytes());
+    }
+
+    pub fn external_write(&mut self, offset: u16, value: u64) {
+        self.bytes.push(0x05);
+        self.bytes.extend(offset.to_le_bytes());
+        self.bytes.extend(value.to_le_bytes());
+    }
+
+    pub fn tick(&mut self, prohibited: u8) {
+        self.bytes.extend([0x06, prohibited]);
+    }
+
+    /// Bytes that are no command.
+    pub fn plain(&mut self, bytes: &[u8]) {
+        self.bytes.extend(bytes);
+    }
+}
+
+// Changes and what is tried under them.
+impl Script {
+    /// Sets all of a list.
+    pub fn put(&mut self, changes: &[Change]) {
+        for &(field, value) in changes {
+            self.set(field, value);
+        }
+    }
+
+    /// Sets a list, does something, and sets back what was there before.
+    pub fn with(&mut self, changes: &[Change], body: impl FnOnce(&mut Script)) {
+        let before: Vec<Change> =
+            changes.iter().map(|&(field, _)| (field, self.values[field as usize])).collect();
+        self.put(changes);
+        body(self);
+        self.put(&before);
+    }
+
+    /// Does something under every subset of the switches, one switch at a time
+    /// (a Gray code). The first subset is the empty one.
+    pub fn subsets(&mut self, switches: &[Switch], mut body: impl FnMut(&mut Script)) {
+        for &(field, off, _) in switches {
+            self.set(field, off);
+        }
+        body(self);
+        for step in 1..1u32 << switches.len() {
+            let (field, off, on) = switches[step.trailing_zeros() as usize];
+            let value = if self.values[field as usize] == off { on } else { off };
+            self.set(field, value);
+            body(self);
+        }
+    }
+
+    /// An access of a kind, to counter m where it has one. A write is followed
+    /// by a read of what it may have changed.
+    pub fn probe(&mut self, kind: Kind, m: u8) {
+        self.serial += 1;
+        let m = m as u32;
+        match kind {
+            Kind::CounterRead => self.access(counter_word(true, m, 2), 0),
+            Kind::CounterWrite => {
+                self.access(counter_word(false, m, 1), self.serial);
+                self.look(counter_word(true, m, 2));
+            }
+            Kind::Swinc => {
+                self.access(word(false, 9, 12, 4, 1), 1 << m);
+                self.look(counter_word(true, m, 2));
+            }
+            Kind::IcntrRead => self.access(word(true, 9, 4, 0, 2), 0),
+            Kind::IcntrWrite => {
+                self.access(word(false, 9, 4, 0, 1), self.serial);
+                self.look(word(true, 9, 4, 0, 2));
+            }
+        }
+    }
+
+    /// A read from the level at which no rule stops it, if the record is
+    /// consistent.
+    pub fn look(&mut self, word: u32) {
+        let level = match (self.values[HAVE_EL3 as usize], self.values[EL2_ENABLED as usize]) {
+            (1, _) => 3,
+            (_, 1) => 2,
+            _ => 1,
+        };
+        self.with(&[(LEVEL, level)], |s| s.access(word, 0));
+    }
+}
+
+/// Fields and values under which level 3 reads every counter and the external
+/// register shows all enables.
+const OPEN: [Change; 13] = [
+    (PMUV3, 1),
+    (P5, 1),
+    (ICNTR, 1),
+    (HPMN0, 1),
+    (EXT64, 1),
+    (HAVE_EL3, 1),
+    (EL2_ENABLED, 0),
+    (N, 31),
+    (POWERED, 1),
+    (DOUBLE_LOCK, 0),
+    (OS_LOCK, 0),
+    (ALLOWED, 1),
+    (LEVEL, 3),
+];
+
+// Ends of sessions.
+impl Script {
+    /// The end command alone.
+    pub fn end(mut self) -> Vec<u8> {
+        self.bytes.push(0x00);
+        self.bytes
+    }
+
+    /// No end command.
+    pub fn cut(self) -> Vec<u8> {
+        self.bytes
+    }
+
+    /// Reads some counters, PMICNTR and the enables.
+    pub fn show(&mut self, counters: impl Iterator<Item = u32>) {
+        for (field, value) in OPEN {
+            if self.values[field as usize] != value {
+                self.set(field, value);
+            }
+        }
+        for m in counters {
+            self.access(counter_word(true, m, m), 0);
+        }
+        self.access(word(true, 9, 4, 0, 30), 0);
+        self.external_read(PMCNTENSET);
+    }
+
+    /// Reads the counters that most sessions use, then ends.
+    pub fn finish(mut self) -> Vec<u8> {
+        self.show((0..=6).chain([30]));
+        self.end()
+    }
+
+    /// Reads all counters, then ends.
+    pub fn finish_all(mut self) -> Vec<u8> {
+        self.show(0..=30);
+        self.end()
+    }
+}
