@@ -6,8 +6,8 @@ use super::fields::*;
 use super::script::{Change, Kind, Script, Switch};
 use super::Session;
 
-/// Consistent, and no rule applies at any level. PMUSERENR is shut: page 004
-/// has no such test.
+/// Consistent, and no rule applies at any level. PMUSERENR is all 0: document
+/// 004 does not test it.
 const GIVEN: [Change; 16] = [
     (PMUV3, 1),
     (ICNTR, 1),

@@ -42,43 +42,44 @@ fn unknown_sessions() -> Vec<Session> {
     list
 }
 
-/// The whole bytes of each command that has operands. All operands are ones
-/// that would be refused or would be seen, if the missing bytes were made up.
-fn whole_commands() -> [(&'static str, Vec<u8>); 8] {
-    let bytes = |write: &dyn Fn(&mut Script)| {
-        let mut script = Script::new(&[]);
-        write(&mut script);
-        script.cut()
-    };
-    [
-        ("set", bytes(&|s| s.set(COUNTER, u64::MAX))),
-        ("set-unused-field", bytes(&|s| s.set_refused(0xFF, u64::MAX))),
-        ("level", bytes(&|s| s.level(1))),
-        ("access", bytes(&|s| s.access(counter_word(true, 0, 1), u64::MAX))),
-        ("external-read", bytes(&|s| s.external_read(PMCNTENSET))),
-        ("external-write", bytes(&|s| s.external_write(PMCNTENSET, u64::MAX))),
-        ("tick", bytes(&|s| s.tick(1))),
-        ("tick-flag", bytes(&|s| s.tick(0xFF))),
-    ]
-}
+/// A command with operands, and after how many of its bytes the session ends.
+/// The operands are ones that would be refused or would be seen, if missing
+/// bytes were made up.
+type Cut = (&'static str, fn(&mut Script), &'static [usize]);
 
-/// 2: the session ends after each number of bytes of each command, and after
-/// a whole one where the end command is missing.
+const CUTS: [Cut; 8] = [
+    ("set", |s| s.set(COUNTER, u64::MAX), &[1, 2, 3, 4, 5, 6, 7, 8, 9, 10]),
+    ("set-unused-field", |s| s.set_refused(0xFF, u64::MAX), &[2, 9]),
+    ("level", |s| s.level(1), &[1, 2]),
+    (
+        "access",
+        |s| s.access(counter_word(true, 0, 1), u64::MAX),
+        &[1, 2, 3, 4, 5, 6, 7, 8, 9, 10, 11, 12, 13],
+    ),
+    ("external-read", |s| s.external_read(PMCNTENSET), &[1, 2, 3]),
+    (
+        "external-write",
+        |s| s.external_write(PMCNTENSET, u64::MAX),
+        &[1, 2, 3, 4, 5, 6, 7, 8, 9, 10, 11],
+    ),
+    ("tick", |s| s.tick(1), &[1, 2]),
+    ("tick-flag", |s| s.tick(0xFF), &[2]),
+];
+
+/// 2: the session ends after each number of bytes of each command, the last
+/// number being the whole command, where only the end command is missing.
 fn cut_sessions() -> Vec<Session> {
     let mut list = Vec::new();
-    for (name, bytes) in whole_commands() {
-        for count in 1..=bytes.len() {
+    for (name, command, counts) in CUTS {
+        for &count in counts {
             let mut script = Script::new(&GIVEN[..4]);
-            script.plain(&bytes[..count]);
-            list.push(Session::new(format!("refusal-2-{name}-{count:02}-bytes"), script.cut()));
+            let start = script.len();
+            command(&mut script);
+            let mut bytes = script.cut();
+            bytes.truncate(start + count);
+            list.push(Session::new(format!("refusal-2-{name}-{count:02}-bytes"), bytes));
         }
     }
-    // A second table of the same would tell nothing: keep the borders.
-    list.retain(|session| {
-        let name = session.name.as_str();
-        !name.contains("unused-field") || name.ends_with("02-bytes") || name.ends_with("09-bytes")
-    });
-    list.retain(|session| session.name != "refusal-2-tick-flag-01-bytes");
     list
 }
 
@@ -138,36 +139,33 @@ fn reading_goes_on_session() -> Vec<u8> {
     script.finish()
 }
 
-/// Commands of 11 bytes up to a length, each seen in the last read.
-fn long(length: usize) -> Vec<u8> {
+/// Whole commands up to a length, most of them external writes that the last
+/// read shows; without the end command.
+fn long(length: usize) -> Script {
     let mut script = Script::new(&GIVEN);
-    let mut bytes = {
-        script.set(N, 31);
-        script.cut()
-    };
-    let mut value = 1u64;
-    while bytes.len() + 30 < length {
-        let mut write = Script::new(&[]);
-        write.external_write(PMCNTENSET, value);
-        bytes.extend(write.cut());
-        value = value.rotate_left(1);
+    script.set(N, 31);
+    let mut bit = 0;
+    while script.len() + 30 < length {
+        script.external_write(PMCNTENSET, 1 << bit);
+        bit = (bit + 1) % 32;
     }
-    bytes.extend([0x04, 0x00, 0x0C]);
-    while bytes.len() < length {
-        bytes.push(0x06);
-        if bytes.len() < length {
-            bytes.push(0x00);
-        }
+    script.external_read(PMCNTENSET);
+    if (length - script.len()) % 2 == 1 {
+        script.external_read(PMCNTENSET);
     }
-    bytes
+    while script.len() < length {
+        script.tick(0);
+    }
+    script
 }
 
 /// 6: 4,096 bytes are run, 4,097 are not, wherever the end command stands.
 fn length_sessions() -> Vec<Session> {
-    let ended = |length: usize| {
-        let mut bytes = long(length - 1);
-        bytes.push(0x00);
-        bytes
+    let ended = |length: usize| long(length - 1).end();
+    let cut = || {
+        let mut script = long(LIMIT - 1);
+        script.plain(&[0x06]);
+        script.cut()
     };
     let after = |length: usize| {
         let mut bytes = Script::new(&GIVEN[..2]).end();
@@ -175,9 +173,9 @@ fn length_sessions() -> Vec<Session> {
         bytes
     };
     vec![
-        Session::new("refusal-6-4095-bytes", ended(LIMIT - 1)),
         Session::new("refusal-6-4096-bytes", ended(LIMIT)),
-        Session::new("refusal-6-4096-bytes-no-end", long(LIMIT)),
+        Session::new("refusal-6-4096-bytes-cut-tick", cut()),
+        Session::new("refusal-6-4096-bytes-no-end", long(LIMIT).cut()),
         Session::new("refusal-6-4096-bytes-unknown-after-end", after(LIMIT)),
         Session::new("refusal-6-4097-bytes", ended(LIMIT + 1)),
         Session::new("refusal-6-4097-bytes-unknown-after-end", after(LIMIT + 1)),

@@ -52,6 +52,11 @@ impl Script {
         script
     }
 
+    /// The number of bytes so far.
+    pub fn len(&self) -> usize {
+        self.bytes.len()
+    }
+
     /// A set or level command that is not refused.
     pub fn set(&mut self, field: u8, value: u64) {
         self.values[field as usize] = value;
