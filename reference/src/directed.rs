@@ -6,6 +6,7 @@
 mod counters;
 mod external;
 mod fields;
+mod flips;
 mod icntr;
 mod input;
 mod script;
@@ -36,6 +37,7 @@ pub fn all() -> Vec<Session> {
         input::sessions,
         values::sessions,
         state::sessions,
+        flips::sessions,
         words::sessions,
         traps::sessions,
         icntr::sessions,

@@ -3,7 +3,7 @@
 //! subsets, and what F0 and IR do to a permitted access.
 
 use super::fields::*;
-use super::script::{Change, Kind, Script, Switch};
+use super::script::{debug_states, Change, Kind, Script, Switch};
 use super::Session;
 
 /// Consistent, and no rule applies at any level. PMUSERENR is all 0: document
@@ -157,7 +157,7 @@ pub fn sessions() -> Vec<Session> {
             }
         }
         for level in 0..=3 {
-            for (halted, state) in [(0, "running"), (1, "halted")] {
+            for &(halted, state) in debug_states(level) {
                 let bytes = subsets_session(kind, level, halted);
                 list.push(Session::new(format!("rules-{name}-level-{level}-{state}"), bytes));
             }

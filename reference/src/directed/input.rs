@@ -180,7 +180,6 @@ fn length_sessions() -> Vec<Session> {
         Session::new("refusal-6-4097-bytes", ended(LIMIT + 1)),
         Session::new("refusal-6-4097-bytes-unknown-after-end", after(LIMIT + 1)),
         Session::new("refusal-6-before-1", vec![0xFF; LIMIT + 1]),
-        Session::new("refusal-6-before-2", vec![0x03; LIMIT + 1]),
     ]
 }
 

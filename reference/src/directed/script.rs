@@ -35,6 +35,18 @@ impl Kind {
     }
 }
 
+/// The states in which all subsets of the rules are tried at a level: running,
+/// and in Debug state, where a stop at EL3 is undefined (with SDD). At level 3
+/// no rule applies, so one is enough.
+pub fn debug_states(level: u8) -> &'static [(u64, &'static str)] {
+    let states = &[(1, "halted"), (0, "running")];
+    if level == 3 {
+        &states[..1]
+    } else {
+        states
+    }
+}
+
 /// A session in the making.
 pub struct Script {
     bytes: Vec<u8>,

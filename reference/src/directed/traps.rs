@@ -3,7 +3,7 @@
 //! that the order shows.
 
 use super::fields::*;
-use super::script::{Change, Kind, Script, Switch};
+use super::script::{debug_states, Change, Kind, Script, Switch};
 use super::Session;
 
 /// Consistent, and no rule applies to counter 3 at any level.
@@ -202,7 +202,7 @@ pub fn sessions() -> Vec<Session> {
                 let bytes = rule_session(&rule(kind), kind, level);
                 list.push(Session::new(format!("rule-{}-{name}-level-{level}", index + 1), bytes));
             }
-            for (halted, state) in [(0, "running"), (1, "halted")] {
+            for &(halted, state) in debug_states(level) {
                 let bytes = subsets_session(kind, level, halted);
                 list.push(Session::new(format!("rules-{name}-level-{level}-{state}"), bytes));
             }
