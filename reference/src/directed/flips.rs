@@ -1,5 +1,6 @@
 //! Every field of one bit flipped alone, beside accesses, external accesses and
-//! ticks that pass: what a field changes, and that it changes nothing else.
+//! ticks that pass or are ignored: what a field changes, and that it changes
+//! nothing else.
 
 use super::fields::*;
 use super::script::{Change, Kind, Script, PMCNTENSET};
@@ -35,35 +36,60 @@ const GIVEN: [Change; 26] = [
     (INSTRUCTIONS, 0x77),
 ];
 
-/// The fields of one bit, each with the value that is not the given one.
-fn flipped() -> Vec<Change> {
-    let bits = (PMUV3..=EL3_PRIORITY)
+/// The fields of one bit.
+fn bits() -> impl Iterator<Item = u8> {
+    (PMUV3..=EL3_PRIORITY)
         .chain(EL2_ENABLED..=SDD)
         .chain(EN..=TPM_EL2)
         .chain(TPM_EL3..=IR)
         .chain([PMUACR_F0])
-        .chain(POWERED..=SOFTWARE_LOCK);
-    let given = |field| GIVEN.iter().any(|&change| change == (field, 1));
-    bits.map(|field| (field, if given(field) { 0 } else { 1 })).collect()
+        .chain(POWERED..=SOFTWARE_LOCK)
 }
 
-/// One kind of access at one level.
-fn access_session(kind: Kind, level: u8) -> Vec<u8> {
+/// What else is given, and the accesses that are tried. In all but the first
+/// rows "Permitted accesses" of 01 hides the counter or ignores the write.
+type Row = (&'static str, &'static [Change], &'static [Kind]);
+
+const ROWS: [Row; 15] = [
+    ("counter-read-level-0", &[(LEVEL, 0)], &[Kind::CounterRead]),
+    ("counter-read-level-1", &[(LEVEL, 1)], &[Kind::CounterRead]),
+    ("counter-write-level-0", &[(LEVEL, 0)], &[Kind::CounterWrite]),
+    ("counter-write-level-1", &[(LEVEL, 1)], &[Kind::CounterWrite]),
+    ("pmswinc-level-0", &[(LEVEL, 0)], &[Kind::Swinc]),
+    ("pmswinc-level-1", &[(LEVEL, 1)], &[Kind::Swinc]),
+    ("pmicntr-read-level-0", &[(LEVEL, 0)], &[Kind::IcntrRead]),
+    ("pmicntr-read-level-1", &[(LEVEL, 1)], &[Kind::IcntrRead]),
+    ("pmicntr-write-level-0", &[(LEVEL, 0)], &[Kind::IcntrWrite]),
+    ("pmicntr-write-level-1", &[(LEVEL, 1)], &[Kind::IcntrWrite]),
+    ("pmuacr-counter", &[(PMUACR_P, 0)], &[Kind::CounterRead, Kind::CounterWrite]),
+    ("er-counter-write", &[(ER, 1)], &[Kind::CounterWrite]),
+    ("pmuacr-pmswinc", &[(PMUACR_P, 0)], &[Kind::Swinc]),
+    ("f0-pmicntr", &[(PMUACR_F0, 0)], &[Kind::IcntrRead, Kind::IcntrWrite]),
+    ("ir-pmicntr-write", &[(IR, 1)], &[Kind::IcntrWrite]),
+];
+
+/// The accesses of a row, under each flipped field.
+fn access_session(row: &Row) -> Vec<u8> {
+    let (_, given, kinds) = row;
     let mut script = Script::new(&GIVEN);
-    script.level(level);
-    script.probe(kind, 3);
-    for change in flipped() {
-        script.with(&[change], |s| s.probe(kind, 3));
+    script.put(given);
+    for field in bits() {
+        script.with_flipped(field, |s| {
+            for &kind in kinds.iter() {
+                s.probe(kind, 3);
+            }
+        });
     }
     script.finish()
 }
 
-/// A tick, an external read and an external write of a bit of its own.
-fn external_session() -> Vec<u8> {
+/// A tick, an external read and an external write of a bit of its own, with the
+/// software lock or without it.
+fn external_session(software_lock: u64) -> Vec<u8> {
     let mut script = Script::new(&GIVEN);
-    script.put(&[(N, 31), (LEVEL, 1)]);
-    for (index, change) in flipped().into_iter().enumerate() {
-        script.with(&[change], |s| {
+    script.put(&[(N, 31), (LEVEL, 1), (SOFTWARE_LOCK, software_lock)]);
+    for (index, field) in bits().enumerate() {
+        script.with_flipped(field, |s| {
             s.tick(0);
             s.external_write(PMCNTENSET, 1 << (index % 32));
             s.external_read(PMCNTENSET);
@@ -78,15 +104,9 @@ fn external_session() -> Vec<u8> {
 }
 
 pub fn sessions() -> Vec<Session> {
-    let kinds =
-        [Kind::CounterRead, Kind::CounterWrite, Kind::Swinc, Kind::IcntrRead, Kind::IcntrWrite];
-    let mut list = Vec::new();
-    for kind in kinds {
-        for level in [0, 1] {
-            let name = format!("each-field-{}-level-{level}", kind.name());
-            list.push(Session::new(name, access_session(kind, level)));
-        }
-    }
-    list.push(Session::new("each-field-tick-external", external_session()));
+    let named = |row: &Row| Session::new(format!("each-field-{}", row.0), access_session(row));
+    let mut list: Vec<Session> = ROWS.iter().map(named).collect();
+    list.push(Session::new("each-field-tick-external", external_session(0)));
+    list.push(Session::new("each-field-software-lock", external_session(1)));
     list
 }

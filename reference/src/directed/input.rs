@@ -167,18 +167,16 @@ fn length_sessions() -> Vec<Session> {
         script.plain(&[0x06]);
         script.cut()
     };
-    let after = |length: usize| {
+    let after = || {
         let mut bytes = Script::new(&GIVEN[..2]).end();
-        bytes.resize(length, 0x07);
+        bytes.resize(LIMIT, 0x07);
         bytes
     };
     vec![
         Session::new("refusal-6-4096-bytes", ended(LIMIT)),
         Session::new("refusal-6-4096-bytes-cut-tick", cut()),
-        Session::new("refusal-6-4096-bytes-no-end", long(LIMIT).cut()),
-        Session::new("refusal-6-4096-bytes-unknown-after-end", after(LIMIT)),
+        Session::new("refusal-6-4096-bytes-unknown-after-end", after()),
         Session::new("refusal-6-4097-bytes", ended(LIMIT + 1)),
-        Session::new("refusal-6-4097-bytes-unknown-after-end", after(LIMIT + 1)),
         Session::new("refusal-6-before-1", vec![0xFF; LIMIT + 1]),
     ]
 }

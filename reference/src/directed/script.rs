@@ -140,6 +140,12 @@ impl Script {
         self.put(&before);
     }
 
+    /// Does something while a field of one bit has its other value.
+    pub fn with_flipped(&mut self, field: u8, body: impl FnOnce(&mut Script)) {
+        let value = self.values[field as usize];
+        self.with(&[(field, 1 - value)], body);
+    }
+
     /// Does something under every subset of the switches, one switch at a time
     /// (a Gray code). The first subset is the empty one.
     pub fn subsets(&mut self, switches: &[Switch], mut body: impl FnMut(&mut Script)) {
