@@ -133,7 +133,7 @@ pub fn sessions() -> Vec<Session> {
     list.push(Session::new("pmuacr-each-counter-write", each_p_session(false)));
     list.push(Session::new("width-counter-write-32", width_session(0)));
     list.push(Session::new("width-counter-write-64", width_session(1)));
-    for (hpmn, n) in [(0, 31), (5, 6), (30, 31)] {
+    for (hpmn, n) in [(5, 6), (30, 31)] {
         let name = format!("hpmn-{hpmn}-n-{n}-each-counter");
         list.push(Session::new(name, hpmn_session(hpmn, n)));
     }
