@@ -65,7 +65,9 @@ pub fn apply(d: Decision, r: Machine) -> Outcome
             machine: r,
         },
         Decision::ReadCounter { m, rt } => {
-            let value = counters::read(&r.counters, m);
+            // a copy of the counters alone, which the compiler elides; a place in the whole record would keep that in memory
+            let counters = r.counters;
+            let value = counters::read(&counters, m);
             Outcome {
                 answer: Answer::Mrs {
                     value: value,

@@ -1,25 +1,33 @@
--- Laws of `anyWide`, the test of refusal 15, along a list.
+-- Laws of `anyWide`, the test of refusal 15, along a list: what was found so far, or something in what is left.
 use Prim.Native.Nat.{ℕ, _+_, _^_, _<_, _≤_}
-use mathlib.Core.Bool.{true, false, _||_}
+use mathlib.Core.Bool.{Bool, true, false, _||_}
 use mathlib.Core.List.{List}
-use mathlib.Core.Path.{_≡_, _∙_}
+use mathlib.Core.Path.{_≡_, refl, _∙_, ap}
 use native.Mathlib.Numerals.{add-one}
-use borrow.Author.Tests.{le-leb, lt-leb}
 use lib.Dec.{leb}
 use lib.ListN.{length, drop, getD, drop-of-length-le}
 use lib.Seq.{drop-cons}
 use Rattle.state.specs.State.{anyWide}
 
-module _ (l : List ℕ) (i : ℕ) where
+-- what is left is behind one test more, or behind none
+or-assoc : (a b c : Bool) → a || (b || c) ≡ (a || b) || c
+or-assoc true b c = refl
+or-assoc false b c = refl
+
+or-false : (a : Bool) → a || false ≡ a
+or-false true = refl
+or-false false = refl
+
+module _ (l : List ℕ) (i : ℕ) (found : Bool) where
   -- one element taken off the front
   wide-drop : i < length l → anyWide (drop i l) ≡ leb (2 ^ 32) (getD l i 0) || anyWide (drop (i + 1) l)
   wide-drop h = rw (add-one, drop-cons l i 0)
 
-  pub wide-found : i < length l → 2 ^ 32 ≤ getD l i 0 → anyWide (drop i l) ≡ true
-  wide-found h w = wide-drop h ∙ rw (le-leb _ _ w)
+  pub wide-next :
+      i < length l → found || anyWide (drop i l) ≡ (found || leb (2 ^ 32) (getD l i 0)) || anyWide (drop (i + 1) l)
+  wide-next h =
+      ap (λ (b : Bool). found || b) (wide-drop h)
+      ∙ or-assoc found (leb (2 ^ 32) (getD l i 0)) (anyWide (drop (i + 1) l))
 
-  pub wide-passed : i < length l → getD l i 0 < 2 ^ 32 → anyWide (drop i l) ≡ anyWide (drop (i + 1) l)
-  wide-passed h w = wide-drop h ∙ rw (lt-leb _ _ w)
-
-  pub wide-none : length l ≤ i → anyWide (drop i l) ≡ false
-  wide-none h = rw (drop-of-length-le l h)
+  pub wide-done : length l ≤ i → found || anyWide (drop i l) ≡ found
+  wide-done h = rw (drop-of-length-le l h, or-false found)

@@ -83,18 +83,17 @@ pub fn verdict_of(v: View) -> Verdict
     )
 }
 
-// Some counter is 2^32 or more.
+// Some counter is 2^32 or more. No branch leaves the loop, so that it compiles to a few instructions for all counters.
 fn any_wide(counters: &[u64]) -> bool
     ensures { λ r. ⌜ r ≡ anyWide (now (counters .entry)) ⌝ }
 {
+    let mut found = false;
     let mut i = 0;
     while i < counters.len() {
-        if 0x100000000 <= counters[i] {
-            return true;
-        }
+        found = found | (0x100000000 <= counters[i]);
         i += 1;
     }
-    false
+    found
 }
 
 // What a decision may look at. The counters are read only where p5 is missing.

@@ -10,7 +10,7 @@ returns c = simp (c .before .d .given .1)
 
 returns-2 : tie.Need-returns-2
 unfolding apply
-returns-2 c = simp (c .before .before .before .before .before .d2 .given .1, c .read .ensures)
+returns-2 c = simp (c .before .before .before .before .d2 .given .1, c .read .ensures)
 
 returns-3 : tie.Need-returns-3
 returns-3 c = simp (c .before .before .d3 .given .1) (c .write-counter .ensures)
@@ -30,6 +30,7 @@ pub apply-spec : {M : Type 1} → statement M
 apply-spec =
     tie.close
     (tie.spec
+    (λ c. search needs)
     (λ c. search needs)
     (λ c. search needs)
     (λ c κs. tt)
