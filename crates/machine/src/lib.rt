@@ -92,26 +92,28 @@ pub struct External {
 }
 
 // All that a decision about an access may look at, besides the level. `cnten` holds the counter enables of PMCNTENSET_EL0.
+// The groups of bools stand together, and the level behind the event numbers, so that little padding is copied with a record.
 pub struct Settings {
     pub features: Features,
     pub execution: Execution,
     pub pmuserenr: Pmuserenr,
     pub hcr: Hcr,
-    pub mdcr2: Mdcr2,
     pub mdcr3: Mdcr3,
     pub scr: Scr,
     pub hdfgrtr: Hdfgrtr,
     pub hdfgwtr: Hdfgwtr,
+    pub external: External,
+    pub mdcr2: Mdcr2,
     pub pmuacr: Pmuacr,
     pub cnten: u64,
-    pub external: External,
 }
 
-// The machine record: the exception level, the settings, the event number and value of each event counter, and PMICNTR_EL0.
+// The machine record: the settings, the event number of each event counter, the exception level, the value of each event
+// counter, and PMICNTR_EL0.
 pub struct Machine {
-    pub level: u8,
     pub settings: Settings,
     pub events: [u16; 31],
+    pub level: u8,
     pub counters: [u64; 31],
     pub instructions: u64,
 }
