@@ -1,0 +1,11 @@
+//! Links libmeasure.a and libmeasure_in_place.a of target/staticlib, which
+//! `rt staticlib` writes.
+
+fn main() {
+    let folder = concat!(env!("CARGO_MANIFEST_DIR"), "/../target/staticlib");
+    println!("cargo:rustc-link-search=native={folder}");
+    for library in ["measure", "measure_in_place"] {
+        println!("cargo:rustc-link-lib=static={library}");
+        println!("cargo:rerun-if-changed={folder}/lib{library}.a");
+    }
+}

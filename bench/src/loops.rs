@@ -1,0 +1,48 @@
+//! The three loops that are measured: the proved by-value step, the proved
+//! step with the record behind a reference, and the reference. Each makes a
+//! record by sets (field in bits 39:32, value in bits 31:0), runs a list of
+//! accesses on it (word in bits 31:0, level in bits 33:32) and sums up the
+//! answers. Sets and list come at run time, so that no compiler knows them.
+
+use reference::model::{Answer, Machine};
+
+/// Sets, accesses, and every access's operand.
+pub type Loop = fn(&[u64], &[u64], u64) -> u64;
+
+pub const LOOPS: [Loop; 3] = [by_value, in_place, reference];
+
+extern "C" {
+    fn measure_by_value(sets: *const u64, count: usize, list: *const u64, length: usize, operand: u64) -> u64;
+    fn measure_in_place(sets: *const u64, count: usize, list: *const u64, length: usize, operand: u64) -> u64;
+}
+
+fn by_value(sets: &[u64], list: &[u64], operand: u64) -> u64 {
+    unsafe { measure_by_value(sets.as_ptr(), sets.len(), list.as_ptr(), list.len(), operand) }
+}
+
+fn in_place(sets: &[u64], list: &[u64], operand: u64) -> u64 {
+    unsafe { measure_in_place(sets.as_ptr(), sets.len(), list.as_ptr(), list.len(), operand) }
+}
+
+/// What an answer adds to the sum.
+fn worth(answer: Answer) -> u64 {
+    match answer {
+        Answer::Ok => 1,
+        Answer::Trap { syndrome, .. } => syndrome as u64,
+        Answer::Moved { value, .. } | Answer::Value(value) => value,
+        _ => 0,
+    }
+}
+
+fn reference(sets: &[u64], list: &[u64], operand: u64) -> u64 {
+    let mut machine = Machine::default();
+    for &set in sets {
+        machine.set((set >> 32) as u8, set & 0xFFFF_FFFF);
+    }
+    let mut sum = 0u64;
+    for &entry in list {
+        machine.el = (entry >> 32) as u8 % 4;
+        sum = sum.wrapping_add(worth(machine.access(entry as u32, operand)));
+    }
+    sum
+}

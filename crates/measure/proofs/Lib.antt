@@ -1,0 +1,2 @@
+-- What is proved of the measured loops.
+pub mod Total

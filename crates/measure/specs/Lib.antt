@@ -1,0 +1,2 @@
+-- What the measured loops compute.
+pub mod Measure
