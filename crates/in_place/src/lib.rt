@@ -1,5 +1,5 @@
-// The access with the record lent and changed there: the caller holds one record, and no second copy. Thin functions over the
-// by-value step, which works on a copy of its own during the call. A reference to a struct is proved by hand, so both functions
+// The access with the record lent and changed there, so that the caller holds one record. Thin functions over the by-value step,
+// which works on a copy of its own during the call. A reference to a struct is proved by hand, so both functions
 // have a walk in proofs/; whoever calls `owned` needs none.
 ghost use mathlib.Core.Path.{_≡_};
 ghost use Rattle.rules.specs.Step.{step};

@@ -91,7 +91,7 @@ pub struct External {
     pub softwarelock: bool,
 }
 
-// All that a decision about an access may look at, besides the level. `cnten` holds the counter enables of PMCNTENSET_EL0.
+// All that a decision about an access may look at, besides the level and refusal 15's test. `cnten` holds the counter enables of PMCNTENSET_EL0.
 // The groups of bools stand together, and the level behind the event numbers, so that little padding is copied with a record.
 pub struct Settings {
     pub features: Features,

@@ -10,7 +10,7 @@ use transcript::Output;
 pub extern "C" fn pmu_room() -> usize
     ensures { λ n. ⌜ n ≡ room ⌝ }
 {
-    65600
+    transcript::ROOM
 }
 
 // Runs a session's bytes from the fresh record, and writes its lines to the front of the buffer. Returns how many bytes they

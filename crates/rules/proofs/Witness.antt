@@ -1,21 +1,30 @@
--- The claims of noninterference are not empty: two start records that differ in counter 5, which is at or above HPMN and has no P
--- bit, and in the instruction counter, and that meet the conditions of all three.
-use mathlib.Core.Bool.{true, not, _&&_}
-use mathlib.Core.List.{[], _∷_}
-use mathlib.Core.Path.{_≡_, refl}
+-- The claims of noninterference are not empty: records that differ in one hidden counter and meet all that a claim asks for, and
+-- what it says of them. Counter 5 is at or above HPMN and has no P bit; F0 is 0.
+use Prim.Native.Nat.{ℕ, zero, suc, _≤_}
+use mathlib.Core.Bool.{Bool, true, false, false≢true}
+use mathlib.Core.List.{List, [], _∷_}
+use mathlib.Core.Path.{_≡_, refl, sym, _∙_}
+use lib.ListN.{getD}
 use Rattle.fields.specs.Largest.{largest}
 use Rattle.fields.specs.Set.{set}
 use Rattle.fields.specs.Store.{store, storeSettings, storeFeatures, storeMdcr2, storePmuacr}
 use Rattle.machine.specs.declared.Machine.{Machine}
 use Rattle.rules.specs.Example.{setAll, usual}
-use Rattle.rules.specs.Isolation.{Start}
+use Rattle.rules.specs.Isolation.{Start, Isolated, fromLevels, fromHpmn, withoutP, instructionCounter}
+use Rattle.rules.specs.Step.{Access}
+use Rattle.rules.proofs.Isolation.{noninterference}
 use Rattle.state.specs.State.{viewOf, tooLarge, verdictOf}
 
 one : Machine
 one = setAll ((0x23, 1) ∷ (0x65, 1) ∷ (0x7F, 1) ∷ []) usual
 
+-- another value in counter 5
 two : Machine
-two = setAll ((0x23, 1) ∷ (0x65, 2) ∷ (0x7F, 2) ∷ []) usual
+two = setAll ((0x23, 1) ∷ (0x65, 2) ∷ (0x7F, 1) ∷ []) usual
+
+-- another value in PMICNTR
+three : Machine
+three = setAll ((0x23, 1) ∷ (0x65, 1) ∷ (0x7F, 2) ∷ []) usual
 
 start-one : Start one
 unfolding one largest set store storeSettings storeFeatures storeMdcr2 storePmuacr setAll usual viewOf tooLarge verdictOf
@@ -25,10 +34,53 @@ start-two : Start two
 unfolding two largest set store storeSettings storeFeatures storeMdcr2 storePmuacr setAll usual viewOf tooLarge verdictOf
 start-two = record { sized = refl; consistent = refl }
 
-conditions :
-    (one .settings .execution .el2enabled ≡ true)
-    × (one .settings .features .p9 && one .settings .pmuserenr .uen && not (one .settings .pmuserenr .sw) ≡ true)
-    × (not (one .settings .pmuacr .f0) ≡ true)
-    × (one .settings ≡ two .settings)
+start-three : Start three
+unfolding three largest set store storeSettings storeFeatures storeMdcr2 storePmuacr setAll usual viewOf tooLarge verdictOf
+start-three = record { sized = refl; consistent = refl }
+
+-- counters other than 5 are equal in the first two
+others :
+    (named : ℕ → Bool) → named 5 ≡ true → (m : ℕ) → m ≤ 30 → named m ≡ false
+    → getD (one .counters) m 0 ≡ getD (two .counters) m 0
 unfolding one two largest set store storeSettings storeFeatures storeMdcr2 storePmuacr setAll usual
-conditions = (refl, refl, refl, refl)
+others named five zero h e = refl
+others named five (suc zero) h e = refl
+others named five (suc (suc zero)) h e = refl
+others named five (suc (suc (suc zero))) h e = refl
+others named five (suc (suc (suc (suc zero)))) h e = refl
+others named five (suc (suc (suc (suc (suc zero))))) h e = absurd (false≢true (sym e ∙ five))
+others named five (suc (suc (suc (suc (suc (suc m)))))) h e = refl
+
+from-hpmn :
+    (accesses : List Access) → fromLevels 1 accesses ≡ true → Isolated (fromHpmn (one .settings)) accesses one two
+unfolding one two largest set store storeSettings storeFeatures storeMdcr2 storePmuacr setAll usual
+from-hpmn accesses l =
+    noninterference .hpmn one two accesses start-one start-two refl l
+    (record {
+      level = refl;
+      settings = refl;
+      events = refl;
+      counters = others (fromHpmn (one .settings) .counter) refl;
+      instructions = λ e. refl;
+    })
+
+without-p :
+    (accesses : List Access) → fromLevels 0 accesses ≡ true → Isolated (withoutP (one .settings)) accesses one two
+unfolding one two largest set store storeSettings storeFeatures storeMdcr2 storePmuacr setAll usual
+without-p accesses l =
+    noninterference .pmuacr one two accesses start-one start-two refl l
+    (record {
+      level = refl;
+      settings = refl;
+      events = refl;
+      counters = others (withoutP (one .settings) .counter) refl;
+      instructions = λ e. refl;
+    })
+
+instructions :
+    (accesses : List Access) → fromLevels 0 accesses ≡ true
+    → Isolated (instructionCounter (one .settings)) accesses one three
+unfolding one three largest set store storeSettings storeFeatures storeMdcr2 storePmuacr setAll usual
+instructions accesses l =
+    noninterference .f0 one three accesses start-one start-three refl l
+    (record { level = refl; settings = refl; events = refl; counters = λ m h e. refl; instructions = λ e. absurd (false≢true (sym e)) })

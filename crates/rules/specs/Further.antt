@@ -32,7 +32,7 @@ further =
     ∷ record { given = (0x20, 0) ∷ []; level = 0; actions = access 0xD53BE862 0 ∷ []; answers = trap El1 0x6236F851 ∷ []; after = [] }
     ∷ record { given = (0x20, 0) ∷ (0x22, 1) ∷ []; level = 0; actions = access 0xD53BE862 0 ∷ access 0xD51BE862 5 ∷ []; answers = Answer.Mrs 0 2 ∷ trap El1 0x6236F850 ∷ []; after = [] }
     -- no rule is for level 3
-    ∷ record { given = (0x0A, 1) ∷ (0x26, 1) ∷ (0x28, 1) ∷ (0x2A, 1) ∷ (0x2C, 1) ∷ (0x2E, 1) ∷ (0x65, 9) ∷ []; level = 3; actions = access 0xD53BE8A2 0 ∷ access 0xD51B9C81 32 ∷ []; answers = Answer.Mrs 9 2 ∷ Answer.Ok ∷ []; after = (0x65, 10) ∷ [] }
+    ∷ record { given = (0x0A, 1) ∷ (0x0B, 1) ∷ (0x11, 1) ∷ (0x12, 1) ∷ (0x20, 0) ∷ (0x26, 1) ∷ (0x28, 1) ∷ (0x2A, 1) ∷ (0x2C, 1) ∷ (0x2E, 1) ∷ (0x65, 9) ∷ []; level = 3; actions = access 0xD53BE8A2 0 ∷ access 0xD51B9C81 32 ∷ []; answers = Answer.Mrs 9 2 ∷ Answer.Ok ∷ []; after = (0x65, 10) ∷ [] }
     -- a write with Rt 31, and one without p5
     ∷ record { given = (0x63, 9) ∷ []; level = 1; actions = access 0xD51BE87F 5 ∷ []; answers = Answer.Ok ∷ []; after = (0x63, 0) ∷ [] }
     ∷ record { given = (0x01, 0) ∷ (0x02, 0) ∷ []; level = 1; actions = access 0xD51BE862 0x500000007 ∷ []; answers = Answer.Ok ∷ []; after = (0x63, 7) ∷ [] }
@@ -46,6 +46,8 @@ further =
     ∷ record { given = (0x03, 1) ∷ (0x26, 1) ∷ []; level = 1; actions = access 0xD53B9402 0 ∷ []; answers = trap El2 0x6230E449 ∷ []; after = [] }
     ∷ record { given = (0x03, 1) ∷ (0x0A, 1) ∷ []; level = 2; actions = access 0xD53B9402 0 ∷ []; answers = trap El3 0x6230E449 ∷ []; after = [] }
     ∷ record { given = (0x03, 1) ∷ (0x0A, 1) ∷ (0x29, 1) ∷ (0x28, 1) ∷ []; level = 2; actions = access 0xD53B9402 0 ∷ []; answers = trap El3 0x6230E449 ∷ []; after = [] }
+    -- none of its rules is for level 3
+    ∷ record { given = (0x03, 1) ∷ (0x05, 1) ∷ (0x0A, 1) ∷ (0x0B, 1) ∷ (0x11, 1) ∷ (0x12, 1) ∷ (0x26, 1) ∷ (0x28, 1) ∷ (0x7F, 5) ∷ []; level = 3; actions = access 0xD53B9402 0 ∷ []; answers = Answer.Mrs 5 2 ∷ []; after = [] }
     -- PMICNTR's fine-grained bits at level 0, not with E2H and TGE
     ∷ record { given = (0x03, 1) ∷ (0x05, 1) ∷ (0x33, 1) ∷ (0x25, 1) ∷ (0x7F, 5) ∷ []; level = 0; actions = access 0xD53B9402 0 ∷ []; answers = trap El2 0x6230E449 ∷ []; after = [] }
     ∷ record { given = (0x03, 1) ∷ (0x05, 1) ∷ (0x33, 1) ∷ (0x24, 1) ∷ (0x25, 1) ∷ (0x7F, 5) ∷ []; level = 0; actions = access 0xD53B9402 0 ∷ []; answers = Answer.Mrs 5 2 ∷ []; after = [] }

@@ -7,8 +7,8 @@ use Rattle.answer.specs.declared.Refusal.the-variants.{HpmnAboveN}
 use Rattle.rules.specs.Example.{Example, trap, swinc}
 use Rattle.rules.specs.Example.Action.{access, read, write}
 
--- 01, "Soundings to prove", P1 to P11. Where the paper gives no value, the counters that are read, and those that a write must
--- leave alone, hold one; in the second half of P10 so does the instruction counter
+-- 01, "Soundings to prove", P1 to P11. Where the paper gives no value, the counters that are read, and those that a counter write
+-- must leave alone, hold one; in the second half of P10 so does the instruction counter
 unfoldable pub worked : List Example
 worked =
     -- P1

@@ -15,7 +15,7 @@ use Rattle.machine.specs.declared.Outcome.{Outcome}
 use Rattle.machine.specs.Machine.{fresh}
 use Rattle.text.specs.Written.{Written}
 use Rattle.text.proofs.Sets.{sets-rest}
-use Rattle.transcript.specs.Session.{execute, answersFrom, linesFrom, answersOf}
+use Rattle.transcript.specs.Session.{execute, answersFrom, linesFrom, answersOf, longest, room}
 use Rattle.transcript.proofs.Sizes.{passes}
 
 -- the rest of the input, as a part of it
@@ -58,7 +58,7 @@ start-left s m e =
     λ i. linesFrom 1 (answersFrom (n i) s (e i))
 
 pub running-start :
-    (s out : List ℕ) (m : Machine) → m ≡ fresh → length s ≤ 4096 → 65600 ≤ length out → Running s out out m 0 0 1
+    (s out : List ℕ) (m : Machine) → m ≡ fresh → length s ≤ longest → room ≤ length out → Running s out out m 0 0 1
 running-start s out m e h k =
     record {
       within = omega arith;

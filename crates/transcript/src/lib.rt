@@ -5,13 +5,16 @@ ghost use mathlib.Core.Path.{_≡_};
 ghost use Prim.Native.Nat.{_≤_};
 ghost use lib.ListN.{length};
 ghost use Rattle.text.specs.Written.{Written};
-ghost use Rattle.transcript.specs.Session.{linesFrom, answersOf, resultOf, bufferOf};
+ghost use Rattle.transcript.specs.Session.{linesFrom, longest, answersOf, room, resultOf, bufferOf};
 use answer::Answer;
 use answer::Refusal;
 
+// The bytes that any session's output fits into: `room` of specs/Session.antt.
+pub const ROOM: usize = 65600;
+
 // The lines of a session that is not too long, from the fresh record on.
 fn run(input: &[u8], out: &mut [u8]) -> usize
-    requires { ⌜ (length (now input) ≤ 4096) × (65600 ≤ length (now out)) ⌝ }
+    requires { ⌜ (length (now input) ≤ longest) × (room ≤ length (now out)) ⌝ }
     ensures { λ end. ⌜ Written (now (out .entry)) 0 (linesFrom 1 (answersOf (now (input .entry)))) (now (out .exit)) end × (end ≤ length (now (out .entry))) ⌝ }
 {
     let mut m = machine::fresh::fresh();
@@ -45,7 +48,7 @@ pub enum Output {
 pub fn session(input: &[u8], out: &mut [u8]) -> Output
     ensures { λ r. ⌜ (r ≡ resultOf (now (input .entry)) (now (out .entry))) × (now (out .exit) ≡ bufferOf (now (input .entry)) (now (out .entry))) ⌝ }
 {
-    if out.len() < 65600 {
+    if out.len() < ROOM {
         return Output::Short;
     }
     if 4096 < input.len() {
