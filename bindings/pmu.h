@@ -2,7 +2,8 @@
  *
  * crates/pmu/src/lib.rt has the functions and what is proved of them. No session is out of place here: whatever its bytes, the
  * output is what document 01 says of them. What C cannot promise and the proofs rest on is that each pointer is to as many
- * bytes as the length behind it says, and that the two do not overlap. pmu_run tests of this what can be tested. */
+ * bytes as the length behind it says, and that the two do not overlap. pmu_run tests for null, for lengths that no object can
+ * have, and for overlap. */
 #ifndef PMU_H
 #define PMU_H
 
@@ -28,7 +29,7 @@ size_t pmu_room(void);
 size_t pmu_session(const uint8_t *input, size_t input_len, uint8_t *out, size_t out_len);
 
 /* pmu_session behind tests of its pointers. Returns 0 and writes nothing also where `out` is null, where `input` is null and its
- * length is not 0, where a length exceeds what an object can have, and where the two overlap. */
+ * length is not 0, where a length exceeds what an object can have there, and where the two overlap. */
 static inline size_t pmu_run(const uint8_t *input, size_t input_len, uint8_t *out, size_t out_len)
 {
     static const uint8_t none[1] = {0};
@@ -40,6 +41,8 @@ static inline size_t pmu_run(const uint8_t *input, size_t input_len, uint8_t *ou
         input = none;
     from = (uintptr_t)input;
     to = (uintptr_t)out;
+    if (input_len > UINTPTR_MAX - from || out_len > UINTPTR_MAX - to)
+        return 0;
     if (from < to ? to - from < input_len : from - to < out_len && input_len != 0)
         return 0;
     return pmu_session(input, input_len, out, out_len);

@@ -5,40 +5,57 @@
 #include "../pmu.h"
 
 static uint8_t input[PMU_LONGEST + 1];
-static uint8_t out[PMU_ROOM];
 
-/* What pmu_run must not run: the number of the first that it does, or 0. */
+/* Room for an output, with one byte on either side of it. */
+static uint8_t bytes[1 + PMU_ROOM + 1];
+static uint8_t *const out = bytes + 1;
+
+/* What pmu_run must not run, and writes nothing for: the number of the first that it does run, or 0. */
 static int wrongly_run(void)
 {
     const uint8_t end[1] = {0};
 
+    if (pmu_run(NULL, 1, out, PMU_ROOM) != 0 || pmu_run(end, 1, NULL, 0) != 0)
+        return 1;
+    if (pmu_run(end, 1, out, PMU_ROOM - 1) != 0)
+        return 2;
+    if (pmu_run(end, SIZE_MAX, out, PMU_ROOM) != 0 || pmu_run(end, 1, out, SIZE_MAX) != 0)
+        return 3;
+    if (pmu_run((const uint8_t *)(UINTPTR_MAX - 1), 100, out, PMU_ROOM) != 0)
+        return 4;
+    if (pmu_run(out, 1, out, PMU_ROOM) != 0 || pmu_run(out + PMU_ROOM - 1, 1, out, PMU_ROOM) != 0)
+        return 5;
+    if (pmu_run(bytes, 2, out, PMU_ROOM) != 0 || pmu_run(bytes, sizeof bytes, out, PMU_ROOM) != 0)
+        return 6;
+    return out[0] != 0 ? 7 : 0;
+}
+
+/* What pmu_run must run: the number of the first that it does not, or 0. */
+static int wrongly_refused(void)
+{
     if (pmu_room() != PMU_ROOM)
         return 1;
-    if (pmu_run(NULL, 1, out, sizeof out) != 0 || pmu_run(end, 1, NULL, 0) != 0)
+    if (pmu_run(NULL, 0, out, PMU_ROOM) != 12 || memcmp(out, "1 refused 2\n", 12) != 0)
         return 2;
-    if (pmu_run(end, 1, out, sizeof out - 1) != 0)
+    if (pmu_run(out + 1, 0, out, PMU_ROOM) != 12)
         return 3;
-    if (pmu_run(out, 1, out, sizeof out) != 0 || pmu_run(out + PMU_ROOM - 1, 1, out, sizeof out) != 0)
+    if (pmu_run(bytes, 1, out, PMU_ROOM) != 6 || memcmp(out, "1 end\n", 6) != 0)
         return 4;
-    if (pmu_run(end, SIZE_MAX, out, sizeof out) != 0)
+    if (pmu_run(out + PMU_ROOM, 1, out, PMU_ROOM) != 6)
         return 5;
-    if (out[0] != 0)
-        return 6;
-    if (pmu_run(NULL, 0, out, sizeof out) != 12 || memcmp(out, "1 refused 2\n", 12) != 0)
-        return 7;
     return 0;
 }
 
 int main(void)
 {
-    int wrong = wrongly_run();
+    int run = wrongly_run(), refused = wrongly_refused();
     size_t n;
 
-    if (wrong != 0) {
-        fprintf(stderr, "pmu_run: test %d fails\n", wrong);
+    if (run != 0 || refused != 0) {
+        fprintf(stderr, "pmu_run: wrongly run %d, wrongly refused %d\n", run, refused);
         return 1;
     }
     n = fread(input, 1, sizeof input, stdin);
-    n = pmu_run(input, n, out, sizeof out);
-    return fwrite(out, 1, n, stdout) == n ? 0 : 1;
+    n = pmu_run(input, n, out, PMU_ROOM);
+    return n != 0 && fwrite(out, 1, n, stdout) == n ? 0 : 1;
 }

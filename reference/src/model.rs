@@ -327,8 +327,8 @@ impl Machine {
         }
     }
 
-    /// The shut gate of PMUSERENR_EL0 at EL0.
-    fn gate_trap(&self) -> Flow {
+    /// The trap of an access that PMUSERENR_EL0 disables at EL0.
+    fn disabled_trap(&self) -> Flow {
         if self.el2_enabled && self.tge {
             Trap(EL2)
         } else {
@@ -353,7 +353,7 @@ impl Machine {
         if self.el3_priority() && self.mdcr_el3_tpm {
             Undefined
         } else if !self.sw && !self.en {
-            self.gate_trap()
+            self.disabled_trap()
         } else if self.el2_enabled && !self.e2h_tge() && self.fgt_in_use() && self.hdfgwtr_pmswinc {
             Trap(EL2)
         } else if self.el2_enabled && self.mdcr_el2_tpm {
@@ -438,7 +438,7 @@ impl Machine {
         if self.el3_priority() && self.mdcr_el3_tpm {
             Undefined
         } else if !self.er && !self.en {
-            self.gate_trap()
+            self.disabled_trap()
         } else if self.el2_enabled && !self.e2h_tge() && self.fgt_in_use() && self.hdfgrtr_pmevcntrn
         {
             Trap(EL2)
@@ -451,7 +451,7 @@ impl Machine {
         if self.el3_priority() && self.mdcr_el3_tpm {
             Undefined
         } else if !self.en {
-            self.gate_trap()
+            self.disabled_trap()
         } else if self.el2_enabled && !self.e2h_tge() && self.fgt_in_use() && self.hdfgwtr_pmevcntrn
         {
             Trap(EL2)

@@ -211,7 +211,7 @@ fn random_machine(rng: &mut Rng) -> Machine {
 fn rules(r: &Machine, m: Option<u8>, read: bool) -> u8 {
     let low = r.el <= 1;
     let stop = if r.halted && r.sdd { 9 } else { 3 };
-    let shut = match (m, read) {
+    let disabled = match (m, read) {
         (Some(_), true) => !(r.en || r.er),
         (Some(_), false) => !r.en,
         (None, _) => !(r.en || r.sw),
@@ -226,7 +226,7 @@ fn rules(r: &Machine, m: Option<u8>, read: bool) -> u8 {
     let list = [
         (m.map_or(false, |m| m >= r.n) || m.is_none() && read, 9),
         (r.have_el3 && r.el <= 2 && all, 9),
-        (r.el == 0 && shut, if r.el2_enabled && r.tge { 2 } else { 1 }),
+        (r.el == 0 && disabled, if r.el2_enabled && r.tge { 2 } else { 1 }),
         (
             r.el2_enabled && low && r.fgt && (!r.have_el3 || r.fgten) && fine
                 && (r.el == 1 || !both),

@@ -28,15 +28,15 @@ pub fn pmevcntr_access(v: View, m: u64, w: u32, x: u64) -> Decision
     ensures { λ r. ⌜ r ≡ pmevcntrAccess v m w x ⌝ }
 {
     let s = v.settings;
-    let hidden = denied(v, m);
+    let is_denied = denied(v, m);
     if word::is_read(w) {
         let rt = word::rt(w);
-        if hidden {
+        if is_denied {
             return Decision::Says(Answer::Mrs { value: 0, rt: rt });
         }
         return Decision::ReadCounter { m: m, rt: rt };
     }
-    if hidden | ((v.level == 0) & s.features.p9 & s.pmuserenr.uen & s.pmuserenr.er) {
+    if is_denied | ((v.level == 0) & s.features.p9 & s.pmuserenr.uen & s.pmuserenr.er) {
         return Decision::Says(Answer::Ok);
     }
     Decision::WriteCounter {
@@ -50,15 +50,15 @@ pub fn pmicntr_access(v: View, w: u32, x: u64) -> Decision
     ensures { λ r. ⌜ r ≡ pmicntrAccess v w x ⌝ }
 {
     let s = v.settings;
-    let closed = (v.level == 0) & !s.pmuacr.f0;
+    let denied_f0 = (v.level == 0) & !s.pmuacr.f0;
     if word::is_read(w) {
         let rt = word::rt(w);
-        if closed {
+        if denied_f0 {
             return Decision::Says(Answer::Mrs { value: 0, rt: rt });
         }
         return Decision::ReadInstructions { rt: rt };
     }
-    if closed | ((v.level == 0) & s.pmuserenr.ir) {
+    if denied_f0 | ((v.level == 0) & s.pmuserenr.ir) {
         return Decision::Says(Answer::Ok);
     }
     Decision::WriteInstructions {

@@ -76,16 +76,12 @@ fn counter_order(v: View, disabled: bool, trap_bit: bool, above: bool) -> Stop
     let s = v.settings;
     let el2 = s.execution.el2enabled;
     let el3 = s.features.el3;
-    let stopped = s.execution.halted & s.execution.sdd;
+    let halted_sdd = s.execution.halted & s.execution.sdd;
+    let not_host_el0 = !((level == 0) & s.hcr.e2h & s.hcr.tge);
     first_of_six(
-        el3 & (level <= 2) & stopped & s.features.el3prio & s.mdcr3.tpm,
+        el3 & (level <= 2) & halted_sdd & s.features.el3prio & s.mdcr3.tpm,
         (level == 0) & disabled,
-        el2
-            & (level <= 1)
-            & !((level == 0) & s.hcr.e2h & s.hcr.tge)
-            & s.features.fgt
-            & (!el3 | s.scr.fgten)
-            & trap_bit,
+        el2 & (level <= 1) & not_host_el0 & s.features.fgt & (!el3 | s.scr.fgten) & trap_bit,
         el2 & (level <= 1) & s.mdcr2.tpm,
         el2 & (level <= 1) & above,
         el3 & (level <= 2) & s.mdcr3.tpm,
@@ -150,12 +146,12 @@ fn icntr_order(v: View, allowed: bool) -> Stop
     let s = v.settings;
     let el2 = s.execution.el2enabled;
     let el3 = s.features.el3;
-    let stopped = s.execution.halted & s.execution.sdd;
-    let guest = !((level == 0) & s.hcr.e2h & s.hcr.tge);
+    let halted_sdd = s.execution.halted & s.execution.sdd;
+    let not_host_el0 = !((level == 0) & s.hcr.e2h & s.hcr.tge);
     first_of_icntr(
-        el3 & (level <= 2) & stopped & s.features.el3prio & (!s.mdcr3.enpm2 | s.mdcr3.tpm),
-        el2 & (level <= 1) & guest & s.features.fgt2 & el3 & !s.scr.fgten2,
-        el2 & (level <= 1) & guest & s.features.fgt2 & !allowed,
+        el3 & (level <= 2) & halted_sdd & s.features.el3prio & (!s.mdcr3.enpm2 | s.mdcr3.tpm),
+        el2 & (level <= 1) & not_host_el0 & s.features.fgt2 & el3 & !s.scr.fgten2,
+        el2 & (level <= 1) & not_host_el0 & s.features.fgt2 & !allowed,
         el2 & (level <= 1) & s.mdcr2.tpm,
         el3 & (level <= 2) & !s.mdcr3.enpm2,
         el3 & (level <= 2) & s.mdcr3.tpm,

@@ -7,17 +7,7 @@ use super::Session;
 use crate::generate::counter_word;
 
 /// Consistent, and no rule applies to counters 0 to 3.
-const GIVEN: [Change; 13] = [
-    (PMUV3, 1),
-    (P5, 1),
-    (P9, 1),
-    (FGT, 1),
-    (HAVE_EL2, 1),
-    (HAVE_EL3, 1),
-    (N, 6),
-    (EL2_ENABLED, 1),
-    (EN, 1),
-    (HPMN, 4),
+const GIVEN: [Change; 3] = [
     (COUNTER, 0x10),
     (COUNTER + 2, 0x12),
     (COUNTER + 3, 0x13),
@@ -31,7 +21,7 @@ const NOT_P3: u64 = ALL_P - P3;
 fn pmuacr_session(level: u8, read_only: bool) -> Vec<u8> {
     let switches: [Switch; 5] =
         [(PMUACR_P, NOT_P3, P3), (UEN, 0, 1), (ER, 0, 1), (P9, 0, 1), (SW, 0, 1)];
-    let mut script = Script::new(&GIVEN);
+    let mut script = Script::counters(&GIVEN);
     script.level(level);
     script.subsets(&switches, |s| {
         s.probe(Kind::CounterRead, 3);
@@ -46,7 +36,7 @@ fn pmuacr_session(level: u8, read_only: bool) -> Vec<u8> {
 fn en_session() -> Vec<u8> {
     let switches: [Switch; 5] =
         [(PMUACR_P, 0, ALL_P), (UEN, 0, 1), (ER, 0, 1), (EN, 0, 1), (P9, 0, 1)];
-    let mut script = Script::new(&GIVEN);
+    let mut script = Script::counters(&GIVEN);
     script.subsets(&switches, |s| {
         s.probe(Kind::CounterRead, 3);
         s.probe(Kind::CounterWrite, 3);
@@ -56,7 +46,7 @@ fn en_session() -> Vec<u8> {
 
 /// Each P bit binds its own counter.
 fn each_p_session(read: bool) -> Vec<u8> {
-    let mut script = Script::new(&GIVEN);
+    let mut script = Script::counters(&GIVEN);
     script.put(&[(N, 31), (HPMN, 31), (UEN, 1)]);
     for m in 0..31 {
         script.set(COUNTER + m, 0x100 + m as u64);
@@ -93,7 +83,7 @@ const BORDERS: [u64; 12] = [
 
 /// A write without p5 stores the low 32 bits, with it all, at each level.
 fn width_session(p5: u64) -> Vec<u8> {
-    let mut script = Script::new(&GIVEN);
+    let mut script = Script::counters(&GIVEN);
     script.put(&[(P9, 0), (P5, p5)]);
     for level in 0..=3 {
         script.level(level);
@@ -107,7 +97,7 @@ fn width_session(p5: u64) -> Vec<u8> {
 
 /// Rule 5 for every counter and some HPMN, at levels 0 to 2.
 fn hpmn_session(hpmn: u64, n: u64) -> Vec<u8> {
-    let mut script = Script::new(&GIVEN);
+    let mut script = Script::counters(&GIVEN);
     script.put(&[(HPMN0, 1), (N, n), (HPMN, hpmn)]);
     for m in 0..31 {
         script.set(COUNTER + m, 0x100 + m as u64);

@@ -47,6 +47,21 @@ pub fn debug_states(level: u8) -> &'static [(u64, &'static str)] {
     }
 }
 
+/// What sessions on counters start from: 4 of 6 counters below HPMN, EL2
+/// enabled, EL3 there, EN 1.
+const COUNTERS: [Change; 10] = [
+    (PMUV3, 1),
+    (P5, 1),
+    (P9, 1),
+    (FGT, 1),
+    (HAVE_EL2, 1),
+    (HAVE_EL3, 1),
+    (N, 6),
+    (EL2_ENABLED, 1),
+    (EN, 1),
+    (HPMN, 4),
+];
+
 /// A session in the making.
 pub struct Script {
     bytes: Vec<u8>,
@@ -60,6 +75,13 @@ impl Script {
     /// A session that starts by setting the record as given.
     pub fn new(given: &[Change]) -> Script {
         let mut script = Script { bytes: Vec::new(), values: [0; 256], serial: 0x1000 };
+        script.put(given);
+        script
+    }
+
+    /// A session on counters, the record as given besides.
+    pub fn counters(given: &[Change]) -> Script {
+        let mut script = Script::new(&COUNTERS);
         script.put(given);
         script
     }

@@ -7,17 +7,7 @@ use super::script::{debug_states, Change, Kind, Script, Switch};
 use super::Session;
 
 /// Consistent, and no rule applies to counter 3 at any level.
-const GIVEN: [Change; 18] = [
-    (PMUV3, 1),
-    (P5, 1),
-    (P9, 1),
-    (FGT, 1),
-    (HAVE_EL2, 1),
-    (HAVE_EL3, 1),
-    (N, 6),
-    (EL2_ENABLED, 1),
-    (EN, 1),
-    (HPMN, 4),
+const GIVEN: [Change; 8] = [
     (FGTEN, 1),
     (ENPM2, 1),
     (COUNTER, 0x10),
@@ -150,7 +140,7 @@ const RULES: [fn(Kind) -> Rule; 6] = [rule_1, rule_2, rule_3, rule_4, rule_5, ru
 
 /// One rule for one kind of access at one level.
 fn rule_session(rule: &Rule, kind: Kind, level: u8) -> Vec<u8> {
-    let mut script = Script::new(&GIVEN);
+    let mut script = Script::counters(&GIVEN);
     script.level(level);
     script.probe(kind, 3);
     script.put(&rule.applies);
@@ -176,7 +166,7 @@ fn switches(kind: Kind) -> [Switch; 6] {
 
 /// All subsets of the rules at one level, in Debug state with SDD or not.
 fn subsets_session(kind: Kind, level: u8, halted: u64) -> Vec<u8> {
-    let mut script = Script::new(&GIVEN);
+    let mut script = Script::counters(&GIVEN);
     script.put(&[(HALTED, halted), (SDD, 1)]);
     script.level(level);
     script.subsets(&switches(kind), |s| s.probe(kind, 3));
@@ -186,7 +176,7 @@ fn subsets_session(kind: Kind, level: u8, halted: u64) -> Vec<u8> {
 /// Levels 0 and 1 where EL2 is not enabled, or E2H and TGE are both 1: rules 3
 /// to 5 then go away, or rule 3 alone at level 0.
 fn weakened_session(kind: Kind, changes: &[Change]) -> Vec<u8> {
-    let mut script = Script::new(&GIVEN);
+    let mut script = Script::counters(&GIVEN);
     script.put(changes);
     let all = switches(kind);
     script.subsets(&all[1..], |s| s.probe(kind, 3));
