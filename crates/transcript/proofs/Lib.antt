@@ -5,3 +5,4 @@ pub mod Running
 pub mod Whole
 pub mod Fuel
 pub mod Lines
+pub mod Reached
