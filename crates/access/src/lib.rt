@@ -65,7 +65,7 @@ pub fn apply(d: Decision, r: Machine) -> Outcome
             machine: r,
         },
         Decision::ReadCounter { m, rt } => {
-            // a copy of the counters alone, which the compiler elides; a place in the whole record would keep that in memory
+            // a copy of the counters alone: a place inside the whole record would keep all of it in memory
             let counters = r.counters;
             let value = counters::read(&counters, m);
             Outcome {
