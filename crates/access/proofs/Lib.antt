@@ -1,3 +1,4 @@
--- The laws of the crate `access`.
+-- The laws of the crate `access`, and noninterference of its calls.
 pub mod Turns
+pub mod Whole
 pub mod Calls

@@ -1,104 +1,114 @@
-// The by-value access: decide, by a view in which there is no counter, then apply.
+// The access: decide, by a view in which there is no counter, then apply. `lent` has the counters of a record lent and changed there;
+// `step` takes and returns a record by value.
 pub mod counters; // counters.rt: the event counters
 
 ghost use mathlib.Core.Path.{_≡_};
-ghost use Rattle.rules.specs.declared.Decision.{Decision};
-ghost use Rattle.rules.specs.Step.{apply, step};
+ghost use Rattle.access.specs.Lent.{Lent, Applied};
+ghost use Rattle.machine.specs.Machine.{machineOf};
+ghost use Rattle.rules.specs.Step.{step};
 use answer::Answer;
 use machine::Machine;
 use machine::Outcome;
+use machine::Settings;
 use rules::Decision;
-use state::View;
+use rules::Place;
 
-// A store to event counter m.
-fn write_counter(m: u64, x: u64, r: Machine) -> Outcome
-    ensures { λ o. ⌜ o ≡ apply (Decision.WriteCounter m x) r ⌝ }
-{
-    let settings = r.settings;
-    let events = r.events;
-    let before = r.counters;
-    let next = Machine {
-        level: r.level,
-        settings: settings,
-        events: events,
-        counters: counters::write(before, settings, m, x),
-        instructions: r.instructions,
-    };
-    Outcome {
-        answer: Answer::Ok,
-        machine: next,
-    }
+// What an access answers, and the instruction counter after it.
+pub struct Said {
+    pub answer: Answer,
+    pub instructions: u64,
 }
 
-// The software increment.
-fn increment(x: u64, r: Machine) -> Outcome
-    ensures { λ o. ⌜ o ≡ apply (Decision.Increment x) r ⌝ }
-{
-    let settings = r.settings;
-    let events = r.events;
-    let before = r.counters;
-    let v = View {
-        level: r.level,
-        settings: settings,
-        wide: false,
-    };
-    let next = Machine {
-        level: r.level,
-        settings: settings,
-        events: events,
-        counters: counters::increment(v, events, before, x),
-        instructions: r.instructions,
-    };
-    Outcome {
-        answer: Answer::Ok,
-        machine: next,
-    }
-}
-
-// What was decided, done to the record.
-pub fn apply(d: Decision, r: Machine) -> Outcome
-    ensures { λ o. ⌜ o ≡ apply d r ⌝ }
+// What was decided, done to the counters that are lent. The level plays no part.
+fn apply(d: Decision, counters: &mut [u64], events: &[u16], s: Settings, instructions: u64) -> Said
+    ensures { λ said. ⌜ Applied d s (now (events .entry)) (now (counters .entry)) instructions said (now (counters .exit)) ⌝ }
 {
     match d {
-        Decision::Says(a) => Outcome {
+        Decision::Says(a) => Said {
             answer: a,
-            machine: r,
+            instructions: instructions,
         },
-        Decision::ReadCounter { m, rt } => {
-            // a copy of the counters alone: a place inside the whole record would keep all of it in memory
-            let counters = r.counters;
-            let value = counters::read(&counters, m);
-            Outcome {
+        Decision::Read { place, rt } => match place {
+            Place::Counter(m) => Said {
                 answer: Answer::Mrs {
-                    value: value,
+                    value: counters::read(counters, m),
                     rt: rt,
                 },
-                machine: r,
-            }
-        }
-        Decision::WriteCounter { m, value } => write_counter(m, value, r),
-        Decision::Increment { operand } => increment(operand, r),
-        Decision::ReadInstructions { rt } => Outcome {
-            answer: Answer::Mrs {
-                value: r.instructions,
-                rt: rt,
+                instructions: instructions,
             },
-            machine: r,
+            Place::Instructions => Said {
+                answer: Answer::Mrs {
+                    value: instructions,
+                    rt: rt,
+                },
+                instructions: instructions,
+            },
         },
-        Decision::WriteInstructions { value } => {
-            let mut next = r;
-            next.instructions = value;
-            Outcome {
+        Decision::Write { place, value } => match place {
+            Place::Counter(m) => {
+                counters::store(counters, s.features.p5, m, value);
+                Said {
+                    answer: Answer::Ok,
+                    instructions: instructions,
+                }
+            }
+            Place::Instructions => Said {
                 answer: Answer::Ok,
-                machine: next,
+                instructions: value,
+            },
+        },
+        Decision::Add { mask } => {
+            counters::increment(counters, events, s.features.p5, mask);
+            Said {
+                answer: Answer::Ok,
+                instructions: instructions,
             }
         }
     }
 }
 
-// The access with word w and operand x.
+// The access with word w and operand x to the record with these parts, its counters lent.
+pub fn lent(
+    counters: &mut [u64; 31],
+    events: &[u16; 31],
+    s: Settings,
+    level: u8,
+    instructions: u64,
+    w: u32,
+    x: u64,
+) -> Said
+    ensures { λ said. ⌜ Lent (step w x (machineOf level s (now (events .entry)) (now (counters .entry)) instructions)) said (now (counters .exit)) ⌝ }
+{
+    let d = decide::decide(state::view_at(level, s, counters), w, x);
+    apply(d, counters, events, s, instructions)
+}
+
+// The same access to a record by value.
 pub fn step(w: u32, x: u64, r: Machine) -> Outcome
     ensures { λ o. ⌜ o ≡ step w x r ⌝ }
 {
-    apply(decide::decide(state::view_of(r), w, x), r)
+    let events = r.events;
+    let settings = r.settings;
+    let mut counters = r.counters;
+    let said = lent(
+        &mut counters,
+        &events,
+        settings,
+        r.level,
+        r.instructions,
+        w,
+        x,
+    );
+    let answer = said.answer;
+    let next = Machine {
+        settings: settings,
+        events: events,
+        level: r.level,
+        counters: counters,
+        instructions: said.instructions,
+    };
+    Outcome {
+        answer: answer,
+        machine: next,
+    }
 }

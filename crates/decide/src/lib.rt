@@ -3,82 +3,67 @@
 pub mod permitted; // permitted.rt: what a permitted access is to do
 
 ghost use mathlib.Core.Path.{_≡_};
-ghost use Rattle.rules.specs.Step.{unlessStopped, decideRegister, decide};
+ghost use Rattle.rules.specs.Step.{undefinedAtOnce, stopOf, unlessStopped, decideRegister, decide};
 use answer::Answer;
 use answer::Trap;
 use rules::Decision;
+use rules::Instruction;
 use rules::Register;
 use rules::Stop;
 use state::Verdict;
 use state::View;
 
+// The access is undefined whatever the controls say.
+fn undefined_at_once(v: View, r: Register, read: bool) -> bool
+    ensures { λ b. ⌜ b ≡ undefinedAtOnce v r read ⌝ }
+{
+    let has = v.settings.features;
+    match r {
+        Register::Pmevcntr(m) => !has.pmuv3 | (has.n <= m),
+        Register::Pmswinc => !has.pmuv3 | read,
+        Register::Pmicntr => !has.icntr,
+        Register::Other => false,
+    }
+}
+
+// What the order of traps says of a register and a direction.
+fn stop_of(v: View, r: Register, read: bool) -> Stop
+    ensures { λ s. ⌜ s ≡ stopOf v r read ⌝ }
+{
+    match r {
+        Register::Pmevcntr(m) => traps::pmevcntr_stop(v, read, m),
+        Register::Pmswinc => traps::pmswinc_stop(v),
+        Register::Pmicntr => traps::pmicntr_stop(v, read),
+        Register::Other => Stop::Pass,
+    }
+}
+
 // What was permitted, unless the order of traps stops it.
-fn unless_stopped(w: u32, stop: Stop, d: Decision) -> Decision
-    ensures { λ r. ⌜ r ≡ unlessStopped w stop d ⌝ }
+fn unless_stopped(syndrome: u32, stop: Stop, d: Decision) -> Decision
+    ensures { λ r. ⌜ r ≡ unlessStopped syndrome stop d ⌝ }
 {
     match stop {
         Stop::Pass => d,
         Stop::Undef => Decision::Says(Answer::Undef),
         Stop::Trap(l) => Decision::Says(Answer::Trap(Trap {
             target: l,
-            syndrome: word::syndrome(w),
+            syndrome: syndrome,
         })),
     }
 }
 
-fn pmevcntr(v: View, m: u64, w: u32, x: u64) -> Decision
-    ensures { λ r. ⌜ r ≡ decideRegister v (Register.Pmevcntr m) w x ⌝ }
-{
-    let has = v.settings.features;
-    if !has.pmuv3 | (has.n <= m) {
-        return Decision::Says(Answer::Undef);
-    }
-    let read = word::is_read(w);
-    unless_stopped(
-        w,
-        traps::pmevcntr_stop(v, read, m),
-        permitted::pmevcntr_access(v, m, w, x),
-    )
-}
-
-fn pmswinc(v: View, w: u32, x: u64) -> Decision
-    ensures { λ r. ⌜ r ≡ decideRegister v Register.Pmswinc w x ⌝ }
-{
-    if !v.settings.features.pmuv3 | word::is_read(w) {
-        return Decision::Says(Answer::Undef);
-    }
-    let operand = word::written(w, x);
-    unless_stopped(
-        w,
-        traps::pmswinc_stop(v),
-        Decision::Increment { operand: operand },
-    )
-}
-
-fn pmicntr(v: View, w: u32, x: u64) -> Decision
-    ensures { λ r. ⌜ r ≡ decideRegister v Register.Pmicntr w x ⌝ }
-{
-    if !v.settings.features.icntr {
-        return Decision::Says(Answer::Undef);
-    }
-    let read = word::is_read(w);
-    unless_stopped(
-        w,
-        traps::pmicntr_stop(v, read),
-        permitted::pmicntr_access(v, w, x),
-    )
-}
-
 // The decision about a register of a consistent record.
-fn decide_register(v: View, r: Register, w: u32, x: u64) -> Decision
-    ensures { λ d. ⌜ d ≡ decideRegister v r w x ⌝ }
+fn decide_register(v: View, r: Register, i: Instruction, x: u64) -> Decision
+    ensures { λ d. ⌜ d ≡ decideRegister v r i x ⌝ }
 {
-    match r {
-        Register::Pmevcntr(m) => pmevcntr(v, m, w, x),
-        Register::Pmswinc => pmswinc(v, w, x),
-        Register::Pmicntr => pmicntr(v, w, x),
-        Register::Other => Decision::Says(Answer::Other),
+    if undefined_at_once(v, r, i.read) {
+        return Decision::Says(Answer::Undef);
     }
+    unless_stopped(
+        i.syndrome,
+        stop_of(v, r, i.read),
+        permitted::permitted(v, r, i, x),
+    )
 }
 
 // The decision about the access with word w and operand x.
@@ -87,6 +72,10 @@ pub fn decide(v: View, w: u32, x: u64) -> Decision
 {
     match state::verdict_of(v) {
         Verdict::Refused(r) => Decision::Says(Answer::Refused(r)),
-        Verdict::Consistent => decide_register(v, word::register(w), w, x),
+        Verdict::Consistent => {
+            let i = word::decode(w);
+            let r = i.register;
+            decide_register(v, r, i, x)
+        }
     }
 }

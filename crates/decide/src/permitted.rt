@@ -1,77 +1,102 @@
 // What a permitted access is to do (01, "Permitted accesses"), decided without a counter.
+ghost use mathlib.Core.Bool.{cond, _&&_};
 ghost use mathlib.Core.Path.{_≡_};
-ghost use Rattle.rules.specs.Permitted.{bit, denied, readOnly, pmevcntrAccess, deniedF0, readOnlyIr, pmicntrAccess, ignored};
+ghost use Prim.Native.Nat.{_%_, _^_};
+ghost use Rattle.rules.specs.Permitted.{placeAccess, pmuacrBinds, addMask};
+ghost use Rattle.rules.specs.Step.{permitted};
+ghost use Rattle.rules.specs.Traps.{upTo, el2Enabled};
 use answer::Answer;
 use rules::Decision;
+use rules::Instruction;
+use rules::Place;
+use rules::Register;
 use state::View;
 
-// Bit m of x.
-fn bit(m: u64, x: u64) -> bool
-    ensures { λ r. ⌜ r ≡ bit m x ⌝ }
+// A permitted access of a place that may be denied to EL0, or only read.
+fn place_access(
+    is_denied: bool,
+    is_read_only: bool,
+    place: Place,
+    i: Instruction,
+    x: u64,
+) -> Decision
+    ensures { λ r. ⌜ r ≡ placeAccess «is_denied» «is_read_only» place i x ⌝ }
 {
-    if 64 <= m {
-        return false;
-    }
-    (x >> m) % 2 == 1
-}
-
-// PMUACR denies counter m to EL0.
-fn denied(v: View, m: u64) -> bool
-    ensures { λ r. ⌜ r ≡ denied v m ⌝ }
-{
-    let s = v.settings;
-    (v.level == 0) & s.features.p9 & s.pmuserenr.uen & !bit(m, s.pmuacr.p)
-}
-
-// A permitted access of PMEVCNTR<m>.
-pub fn pmevcntr_access(v: View, m: u64, w: u32, x: u64) -> Decision
-    ensures { λ r. ⌜ r ≡ pmevcntrAccess v m w x ⌝ }
-{
-    let s = v.settings;
-    let is_denied = denied(v, m);
-    if word::is_read(w) {
-        let rt = word::rt(w);
+    if i.read {
         if is_denied {
-            return Decision::Says(Answer::Mrs { value: 0, rt: rt });
+            return Decision::Says(Answer::Mrs { value: 0, rt: i.rt });
         }
-        return Decision::ReadCounter { m: m, rt: rt };
+        return Decision::Read {
+            place: place,
+            rt: i.rt,
+        };
     }
-    if is_denied | ((v.level == 0) & s.features.p9 & s.pmuserenr.uen & s.pmuserenr.er) {
+    if is_denied | is_read_only {
         return Decision::Says(Answer::Ok);
     }
-    Decision::WriteCounter {
-        m: m,
-        value: word::written(w, x),
+    Decision::Write {
+        place: place,
+        value: word::written(i, x),
     }
 }
 
-// A permitted access of PMICNTR.
-pub fn pmicntr_access(v: View, w: u32, x: u64) -> Decision
-    ensures { λ r. ⌜ r ≡ pmicntrAccess v w x ⌝ }
+// PMUACR binds the event counters.
+fn pmuacr_binds(v: View) -> bool
+    ensures { λ r. ⌜ r ≡ pmuacrBinds v ⌝ }
 {
     let s = v.settings;
-    let denied_f0 = (v.level == 0) & !s.pmuacr.f0;
-    if word::is_read(w) {
-        let rt = word::rt(w);
-        if denied_f0 {
-            return Decision::Says(Answer::Mrs { value: 0, rt: rt });
-        }
-        return Decision::ReadInstructions { rt: rt };
-    }
-    if denied_f0 | ((v.level == 0) & s.pmuserenr.ir) {
-        return Decision::Says(Answer::Ok);
-    }
-    Decision::WriteInstructions {
-        value: word::written(w, x),
-    }
+    (v.level == 0) & s.features.p9 & s.pmuserenr.uen
 }
 
-// Bit m of PMSWINC is ignored.
-pub fn ignored(v: View, m: u64) -> bool
-    ensures { λ r. ⌜ r ≡ ignored v m ⌝ }
+// The bits of x below HPMN, where it binds.
+fn below_hpmn(v: View, x: u64) -> u64
+    ensures { λ r. ⌜ r ≡ cond (upTo 1 v && el2Enabled v) (x % 2 ^ v .settings .mdcr2 .hpmn) x ⌝ }
 {
     let s = v.settings;
-    (s.features.n <= m)
-        | ((v.level <= 1) & s.execution.el2enabled & (s.mdcr2.hpmn <= m))
-        | (denied(v, m) & !s.pmuserenr.sw)
+    if (v.level <= 1) & s.execution.el2enabled {
+        return bits::below(s.mdcr2.hpmn, x);
+    }
+    x
+}
+
+// The bits of PMSWINC's operand x that are not ignored.
+fn add_mask(v: View, x: u64) -> u64
+    ensures { λ r. ⌜ r ≡ addMask v x ⌝ }
+{
+    let s = v.settings;
+    let reached = below_hpmn(v, bits::below(s.features.n, x % 0x80000000));
+    if pmuacr_binds(v) & !s.pmuserenr.sw {
+        return reached & s.pmuacr.p;
+    }
+    reached
+}
+
+// A permitted access of a register.
+pub fn permitted(v: View, r: Register, i: Instruction, x: u64) -> Decision
+    ensures { λ d. ⌜ d ≡ permitted v r i x ⌝ }
+{
+    let s = v.settings;
+    match r {
+        Register::Pmevcntr(m) => {
+            let binds = pmuacr_binds(v);
+            place_access(
+                binds & !bits::bit(m, s.pmuacr.p),
+                binds & s.pmuserenr.er,
+                Place::Counter(m),
+                i,
+                x,
+            )
+        }
+        Register::Pmswinc => Decision::Add {
+            mask: add_mask(v, word::written(i, x)),
+        },
+        Register::Pmicntr => place_access(
+            (v.level == 0) & !s.pmuacr.f0,
+            (v.level == 0) & s.pmuserenr.ir,
+            Place::Instructions,
+            i,
+            x,
+        ),
+        Register::Other => Decision::Says(Answer::Other),
+    }
 }

@@ -2,8 +2,9 @@
 ghost use mathlib.Core.Path.{_≡_};
 ghost use mathlib.Core.Bool.{_&&_};
 ghost use lib.Dec.{ltb};
-ghost use Rattle.rules.specs.Permitted.{bit};
-ghost use Rattle.rules.specs.External.{fromBits, shownOf, enablesWritten};
+ghost use Rattle.bits.specs.Bits.{bit};
+ghost use Rattle.bits.specs.Bits.{fromBits};
+ghost use Rattle.rules.specs.External.{shownOf, enablesWritten};
 use machine::Settings;
 
 // The bits of x of the event counters below n.

@@ -1,50 +1,27 @@
-// External accesses to PMCNTENSET_EL0, and the tick.
-pub mod enables; // enables.rt: the enable bits that the register shows and sets
+// External accesses and the tick: what is requested from outside, of a record that is tested first.
+pub mod enables; // enables.rt: the enable bits that PMCNTENSET_EL0 shows and sets
+mod reach; // reach.rt: how far an access at an offset gets
 
 ghost use mathlib.Core.Path.{_≡_};
 ghost use Rattle.machine.specs.Machine.{withCnten};
-ghost use Rattle.state.specs.State.{viewOf, verdictOf};
-ghost use Rattle.rules.specs.External.{unreachable, readOf, externalRead, writeOf, externalWrite, tickOf, tick};
+ghost use Rattle.rules.specs.External.{readOf, writeOf, tickOf, obeyed, request, externalRead, externalWrite, tick};
 use answer::Answer;
 use machine::Machine;
 use machine::Outcome;
 use machine::Settings;
+use rules::external::Reach;
+use rules::external::Request;
 use state::Verdict;
 
-// The register cannot be reached: locked, without power, or not allowed.
-fn unreachable(s: Settings) -> bool
-    ensures { λ b. ⌜ b ≡ unreachable s ⌝ }
+// What a read answers that gets so far.
+fn read_of(t: Reach, s: Settings) -> Answer
+    ensures { λ a. ⌜ a ≡ readOf t s ⌝ }
 {
-    let e = s.external;
-    e.doublelock | !e.powered | e.oslock | !e.allowed
-}
-
-// A read of a consistent record.
-fn read_of(offset: u16, r: Machine) -> Outcome
-    ensures { λ o. ⌜ o ≡ readOf offset r ⌝ }
-{
-    let s = r.settings;
-    if offset != 0xC00 {
-        return Outcome {
-            answer: Answer::Other,
-            machine: r,
-        };
-    }
-    if !(s.features.ext32 | s.features.ext64) {
-        return Outcome {
-            answer: Answer::Value(0),
-            machine: r,
-        };
-    }
-    if unreachable(s) {
-        return Outcome {
-            answer: Answer::Error,
-            machine: r,
-        };
-    }
-    Outcome {
-        answer: Answer::Value(enables::shown_of(s, s.cnten)),
-        machine: r,
+    match t {
+        Reach::Other => Answer::Other,
+        Reach::Ignored => Answer::Value(0),
+        Reach::Error => Answer::Error,
+        Reach::Pmcntenset => Answer::Value(enables::shown_of(s, s.cnten)),
     }
 }
 
@@ -54,49 +31,33 @@ fn with_cnten(e: u64, r: Machine) -> Machine
 {
     let mut settings = r.settings;
     settings.cnten = e;
-    let events = r.events;
-    let counters = r.counters;
-    Machine {
-        level: r.level,
-        settings: settings,
-        events: events,
-        counters: counters,
-        instructions: r.instructions,
-    }
+    let mut next = r;
+    next.settings = settings;
+    next
 }
 
-// A write to a consistent record.
-fn write_of(offset: u16, x: u64, r: Machine) -> Outcome
-    ensures { λ o. ⌜ o ≡ writeOf offset x r ⌝ }
+// What a write of x answers that gets so far, and the record after it.
+fn write_of(t: Reach, x: u64, r: Machine) -> Outcome
+    ensures { λ o. ⌜ o ≡ writeOf t x r ⌝ }
 {
     let s = r.settings;
-    if offset != 0xC00 {
-        return Outcome {
+    match t {
+        Reach::Other => Outcome {
             answer: Answer::Other,
             machine: r,
-        };
-    }
-    if !(s.features.ext32 | s.features.ext64) {
-        return Outcome {
+        },
+        Reach::Ignored => Outcome {
             answer: Answer::Ok,
             machine: r,
-        };
-    }
-    if unreachable(s) {
-        return Outcome {
+        },
+        Reach::Error => Outcome {
             answer: Answer::Error,
             machine: r,
-        };
-    }
-    if s.external.softwarelock {
-        return Outcome {
+        },
+        Reach::Pmcntenset => Outcome {
             answer: Answer::Ok,
-            machine: r,
-        };
-    }
-    Outcome {
-        answer: Answer::Ok,
-        machine: with_cnten(enables::written(s, x), r),
+            machine: with_cnten(enables::written(s, x), r),
+        },
     }
 }
 
@@ -119,48 +80,51 @@ fn tick_of(prohibited: bool, r: Machine) -> Outcome
     }
 }
 
-// The state test that comes before all else.
-fn verdict(r: Machine) -> Verdict
-    ensures { λ v. ⌜ v ≡ verdictOf (viewOf r) ⌝ }
+// What is requested of a consistent record.
+fn obeyed(q: Request, r: Machine) -> Outcome
+    ensures { λ o. ⌜ o ≡ obeyed q r ⌝ }
 {
-    state::verdict_of(state::view_of(r))
+    let s = r.settings;
+    match q {
+        Request::Read(offset) => Outcome {
+            answer: read_of(reach::reach(false, offset, s), s),
+            machine: r,
+        },
+        Request::Write { offset, value } => write_of(reach::reach(true, offset, s), value, r),
+        Request::Tick(prohibited) => tick_of(prohibited, r),
+    }
+}
+
+// What is requested of any record: the state test comes before all else.
+fn request(q: Request, r: Machine) -> Outcome
+    ensures { λ o. ⌜ o ≡ request q r ⌝ }
+{
+    match state::verdict_of(state::view_of(r)) {
+        Verdict::Refused(n) => Outcome {
+            answer: Answer::Refused(n),
+            machine: r,
+        },
+        Verdict::Consistent => obeyed(q, r),
+    }
 }
 
 // An external read at an offset.
 pub fn read(offset: u16, r: Machine) -> Outcome
     ensures { λ o. ⌜ o ≡ externalRead offset r ⌝ }
 {
-    match verdict(r) {
-        Verdict::Refused(n) => Outcome {
-            answer: Answer::Refused(n),
-            machine: r,
-        },
-        Verdict::Consistent => read_of(offset, r),
-    }
+    request(Request::Read(offset), r)
 }
 
 // An external write of x at an offset.
 pub fn write(offset: u16, x: u64, r: Machine) -> Outcome
     ensures { λ o. ⌜ o ≡ externalWrite offset x r ⌝ }
 {
-    match verdict(r) {
-        Verdict::Refused(n) => Outcome {
-            answer: Answer::Refused(n),
-            machine: r,
-        },
-        Verdict::Consistent => write_of(offset, x, r),
-    }
+    request(Request::Write { offset, value: x }, r)
 }
 
 // One executed instruction, where counting may be prohibited.
 pub fn tick(prohibited: bool, r: Machine) -> Outcome
     ensures { λ o. ⌜ o ≡ tick prohibited r ⌝ }
 {
-    match verdict(r) {
-        Verdict::Refused(n) => Outcome {
-            answer: Answer::Refused(n),
-            machine: r,
-        },
-        Verdict::Consistent => tick_of(prohibited, r),
-    }
+    request(Request::Tick(prohibited), r)
 }

@@ -1,33 +1,38 @@
--- The fields of the machine record (01, "The machine record"): their numbers, and the largest value of each.
+-- The fields of the machine record (01, "The machine record"): their numbers, and the largest value of each; the largest level.
 use Prim.Native.Nat.{ℕ, _-_, _^_}
-use mathlib.Core.Bool.{Bool, cond, _&&_, _||_}
+use mathlib.Core.Bool.{Bool, _&&_, _||_}
+use mathlib.Core.List.{List, [], _∷_}
 use lib.Dec.{leb, ltb, eqb}
+use Rattle.machine.specs.First.{first}
 
--- first to last, both included
+-- low to high, both included
 abbrev pub within : ℕ → ℕ → ℕ → Bool
-within first last f = leb first f && leb f last
+within low high f = leb low f && leb f high
 
--- "Fields are one bit unless a largest value follows": the kinds of fields, by their largest value, and 0 for no field
-abbrev pub byKind : Bool → Bool → Bool → Bool → Bool → Bool → ℕ
-byKind flag count p enables event counter =
-    cond flag 1
-    (cond count 31
-    (cond p 0x7FFFFFFF
-    (cond enables 0x1FFFFFFFF
-    (cond event 0xFFFF
-    (cond counter (2 ^ 64 - 1) 0)))))
+-- "Fields are one bit unless a largest value follows": the numbers of the one-bit fields
+abbrev pub isFlag : ℕ → Bool
+isFlag f = leb f 0x0B || within 0x10 0x12 f || within 0x20 0x26 f || within 0x28 0x31 f || eqb f 0x33 || within 0x38 0x3C f
+
+-- the fields that have the number f, if any, and their largest value: flags; N and HPMN; the P bits; the counter enables; event
+-- numbers; counters
+abbrev pub kinds : ℕ → List (Bool × ℕ)
+kinds f =
+    (isFlag f, 1)
+    ∷ (eqb f 0x0C || eqb f 0x27, 31)
+    ∷ (eqb f 0x32, 0x7FFFFFFF)
+    ∷ (eqb f 0x34, 0x1FFFFFFFF)
+    ∷ (within 0x40 0x5E f, 0xFFFF)
+    ∷ (within 0x60 0x7F f, 2 ^ 64 - 1)
+    ∷ []
 
 -- the largest value of the field with this number, and 0 where no field has it
 unfoldable pub largest : ℕ → ℕ
-largest f =
-    byKind
-    (leb f 0x0B || within 0x10 0x12 f || within 0x20 0x26 f || within 0x28 0x31 f || eqb f 0x33 || within 0x38 0x3C f)
-    (eqb f 0x0C || eqb f 0x27)
-    (eqb f 0x32)
-    (eqb f 0x34)
-    (within 0x40 0x5E f)
-    (within 0x60 0x7F f)
+largest f = first (kinds f) 0
 
 -- the number is one of a field
 abbrev pub isField : ℕ → Bool
 isField f = ltb 0 (largest f)
+
+-- "The exception level, 0 to 3": the largest
+abbrev pub largestLevel : ℕ
+largestLevel = 3

@@ -5,7 +5,7 @@ use lib.Dec.{ltb}
 use Rattle.answer.specs.declared.Refusal.the-variants.{UnknownField, ValueTooLarge, LevelTooLarge}
 use Rattle.machine.specs.declared.Machine.{Machine}
 use Rattle.machine.specs.declared.Outcome.{Outcome}
-use Rattle.fields.specs.Largest.{largest, isField}
+use Rattle.fields.specs.Largest.{largest, isField, largestLevel}
 use Rattle.machine.specs.Machine.{withLevel}
 use Rattle.machine.specs.Outcome.{refused, done}
 use Rattle.fields.specs.Store.{store}
@@ -19,4 +19,4 @@ set f v m =
 
 -- the level command: refusal 5, else the level is l
 unfoldable pub setLevel : ℕ → Machine → Outcome
-setLevel l m = cond (ltb 3 l) (refused LevelTooLarge m) (done (withLevel l m))
+setLevel l m = cond (ltb largestLevel l) (refused LevelTooLarge m) (done (withLevel l m))

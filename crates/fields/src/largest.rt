@@ -1,18 +1,32 @@
-// The largest value of a field, by the field's number.
+// The largest value of a field, by the field's number, and the largest level.
 ghost use mathlib.Core.Path.{_≡_};
-ghost use Rattle.fields.specs.Largest.{largest, byKind};
+ghost use Rattle.fields.specs.Largest.{largest};
 
-// The largest value of each kind of field, and 0 for no field.
-fn by_kind(flag: bool, count: bool, p: bool, enables: bool, event: bool, counter: bool) -> u64
-    ensures { λ v. ⌜ v ≡ byKind flag count p enables event counter ⌝ }
+// The largest exception level.
+pub const LEVEL: u8 = 3;
+
+// The largest value of field f, and 0 where no field has that number.
+pub fn largest(f: u8) -> u64
+    ensures { λ v. ⌜ v ≡ largest f ⌝ }
 {
+    let flag = (f <= 0x0B)
+        | ((0x10 <= f) & (f <= 0x12))
+        | ((0x20 <= f) & (f <= 0x26))
+        | ((0x28 <= f) & (f <= 0x31))
+        | (f == 0x33)
+        | ((0x38 <= f) & (f <= 0x3C));
+    let count = (f == 0x0C) | (f == 0x27);
+    let p_bits = f == 0x32;
+    let enables = f == 0x34;
+    let event = (0x40 <= f) & (f <= 0x5E);
+    let counter = (0x60 <= f) & (f <= 0x7F);
     if flag {
         return 1;
     }
     if count {
         return 31;
     }
-    if p {
+    if p_bits {
         return 0x7FFFFFFF;
     }
     if enables {
@@ -25,23 +39,4 @@ fn by_kind(flag: bool, count: bool, p: bool, enables: bool, event: bool, counter
         return 0xFFFFFFFFFFFFFFFF;
     }
     0
-}
-
-// The largest value of field f, and 0 where no field has that number.
-pub fn largest(f: u8) -> u64
-    ensures { λ v. ⌜ v ≡ largest f ⌝ }
-{
-    by_kind(
-        (f <= 0x0B)
-            | ((0x10 <= f) & (f <= 0x12))
-            | ((0x20 <= f) & (f <= 0x26))
-            | ((0x28 <= f) & (f <= 0x31))
-            | (f == 0x33)
-            | ((0x38 <= f) & (f <= 0x3C)),
-        (f == 0x0C) | (f == 0x27),
-        f == 0x32,
-        f == 0x34,
-        (0x40 <= f) & (f <= 0x5E),
-        (0x60 <= f) & (f <= 0x7F),
-    )
 }

@@ -1,7 +1,7 @@
 // The set and level commands of a session. A refused one leaves the record as it was.
 ghost use mathlib.Core.Path.{_≡_};
 ghost use Rattle.fields.specs.Set.{set, setLevel};
-use crate::largest::largest;
+use crate::largest;
 use crate::store;
 use answer::Answer;
 use answer::Refusal;
@@ -12,7 +12,7 @@ use machine::Outcome;
 pub fn set(f: u8, v: u64, m: Machine) -> Outcome
     ensures { λ r. ⌜ r ≡ set f v m ⌝ }
 {
-    let most = largest(f);
+    let most = largest::largest(f);
     if most == 0 {
         return Outcome {
             answer: Answer::Refused(Refusal::UnknownField),
@@ -45,7 +45,7 @@ pub fn set(f: u8, v: u64, m: Machine) -> Outcome
 pub fn set_level(l: u8, m: Machine) -> Outcome
     ensures { λ r. ⌜ r ≡ setLevel l m ⌝ }
 {
-    if 3 < l {
+    if largest::LEVEL < l {
         return Outcome {
             answer: Answer::Refused(Refusal::LevelTooLarge),
             machine: m,

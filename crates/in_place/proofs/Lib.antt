@@ -1,2 +1,3 @@
 -- What the proofs of the crate `in_place` share.
 pub mod Values
+pub mod Calls

@@ -1,2 +1,3 @@
--- The laws of the crate `machine`.
+-- Laws that all crates above share.
+pub mod Bools
 pub mod First

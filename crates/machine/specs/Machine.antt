@@ -53,6 +53,10 @@ fresh =
       instructions = 0;
     }
 
+-- the record with these parts
+abbrev pub machineOf : ℕ → Settings → List ℕ → List ℕ → ℕ → Machine
+machineOf l s e c i = record { level = l; settings = s; events = e; counters = c; instructions = i }
+
 -- the record with its level put to l
 abbrev pub withLevel : ℕ → Machine → Machine
 withLevel l m =

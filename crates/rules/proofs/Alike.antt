@@ -9,14 +9,24 @@ use lib.Dec.{ltb}
 use lib.ListN.{getD, length, List·getD-eq-default}
 use Rattle.answer.specs.declared.Answer.{Answer}
 use Rattle.machine.specs.declared.Machine.{Machine}
-use Rattle.state.specs.declared.View.{View}
 use Rattle.state.specs.State.{viewOf}
 use Rattle.rules.specs.declared.Decision.{Decision}
-use Rattle.rules.specs.declared.Decision.the-variants.{Says, ReadCounter, WriteCounter, Increment, ReadInstructions, WriteInstructions}
+use Rattle.rules.specs.declared.Decision.the-variants.{Says, Read, Write, Add}
+use Rattle.rules.specs.declared.Place.{Place}
+use Rattle.rules.specs.declared.Place.the-variants.{Counter, Instructions}
+use Rattle.rules.specs.Apply.{valueAt, apply}
 use Rattle.rules.specs.Isolation.{Named, SameExcept, Kept}
-use Rattle.rules.specs.Step.{apply}
-use Rattle.rules.proofs.Applied.{level-stays, settings-stay, events-stay, length-stays, counter-after, untouched, instructions-after, instructions-untouched, wide-stays, effect, effectInstructions}
-use Rattle.rules.proofs.Touches.{touches, touchesInstructions}
+use Rattle.rules.proofs.Applied.{
+  level-stays,
+  settings-stay,
+  events-stay,
+  length-stays,
+  value-after,
+  untouched,
+  wide-stays,
+  effect,
+}
+use Rattle.rules.proofs.Touches.{samePlace, touches}
 
 -- a record with 31 counters that refusal 15 does not meet
 pub record Sound (r : Machine) : Type 0 where
@@ -29,10 +39,14 @@ pub record Alike (x : Named) (r₁ r₂ : Machine) : Type 0 where
   pub sound₁ : Sound r₁
   pub sound₂ : Sound r₂
 
--- the decision touches no counter that is named
-pub record Hides (x : Named) (v : View) (d : Decision) : Type 0 where
-  pub counter : (i : ℕ) → x .counter i ≡ true → touches v i d ≡ false
-  pub instructions : x .instructions ≡ true → touchesInstructions d ≡ false
+-- the place is named
+abbrev pub namedAt : Named → Place → Bool
+namedAt x (Counter m) = x .counter m
+namedAt x Instructions = x .instructions
+
+-- the decision touches no place that is named
+abbrev pub Hides : Named → Decision → Type 0
+Hides x d = (p : Place) → namedAt x p ≡ true → touches p d ≡ false
 
 pub sound-stays : (d : Decision) {r : Machine} → Sound r → Sound (apply d r .machine)
 sound-stays d {r} s = record { sized = length-stays d r ∙ s .sized; narrow = wide-stays d r (s .narrow) }
@@ -48,9 +62,10 @@ view-alike a =
       wide = (a .sound₁ .narrow ∙ sym (a .sound₂ .narrow)) i;
     }
 
--- a counter that is not named, also past the 31
-not-named : {x : Named} {r₁ r₂ : Machine} → Alike x r₁ r₂ → (i : ℕ) → x .counter i ≡ false → getD (r₁ .counters) i 0 ≡ getD (r₂ .counters) i 0
-not-named {x} {r₁} {r₂} a i n = go (ltb i 31) refl
+-- a place that is not named, also past the 31 counters
+not-named : {x : Named} {r₁ r₂ : Machine} → Alike x r₁ r₂ → (p : Place) → namedAt x p ≡ false → valueAt p r₁ ≡ valueAt p r₂
+not-named a Instructions n = a .same .instructions n
+not-named {x} {r₁} {r₂} a (Counter i) n = go (ltb i 31) refl
   where
     go : (b : Bool) → ltb i 31 ≡ b → getD (r₁ .counters) i 0 ≡ getD (r₂ .counters) i 0
     go true e = a .same .counters i (omega (arith, ltb-true i 31 e)) n
@@ -63,17 +78,18 @@ unnamed : (b : Bool) {c : Bool} → (b ≡ true → c ≡ false) → c ≡ true 
 unnamed true h e = sym e ∙ h refl
 unnamed false h e = refl
 
+same-self : (p : Place) → samePlace p p ≡ true
+same-self (Counter m) = eq-eqb m m refl
+same-self Instructions = refl
+
 module _ (x : Named) (r₁ r₂ : Machine) (a : Alike x r₁ r₂) where
-  pub answers-alike : (d : Decision) → Hides x (viewOf r₁) d → apply d r₁ .answer ≡ apply d r₂ .answer
+  pub answers-alike : (d : Decision) → Hides x d → apply d r₁ .answer ≡ apply d r₂ .answer
   unfolding apply
   answers-alike (Says b) h = refl
-  answers-alike (ReadCounter m t) h =
-      ap (λ y. Answer.Mrs y t) (not-named a m (unnamed (x .counter m) (h .counter m) (eq-eqb m m refl)))
-  answers-alike (WriteCounter m y) h = refl
-  answers-alike (Increment y) h = refl
-  answers-alike (ReadInstructions t) h =
-      ap (λ y. Answer.Mrs y t) (a .same .instructions (unnamed (x .instructions) (h .instructions) refl))
-  answers-alike (WriteInstructions y) h = refl
+  answers-alike (Read p rt) h =
+      ap (λ y. Answer.Mrs y rt) (not-named a p (unnamed (namedAt x p) (h p) (same-self p)))
+  answers-alike (Write p y) h = refl
+  answers-alike (Add mask) h = refl
 
   pub stays-alike : (d : Decision) → Alike x (apply d r₁ .machine) (apply d r₂ .machine)
   stays-alike d =
@@ -85,21 +101,28 @@ module _ (x : Named) (r₁ r₂ : Machine) (a : Alike x r₁ r₂) where
               events = events-stay d r₁ ∙ a .same .events ∙ sym (events-stay d r₂);
               counters =
                   λ m le n.
-                  counter-after d r₁ m (omega (arith, a .sound₁ .sized))
-                  ∙ (λ i. effect (view-alike a i) (a .same .events i) d m (a .same .counters m le n i))
-                  ∙ sym (counter-after d r₂ m (omega (arith, a .sound₂ .sized)));
+                  value-after d r₁ (Counter m) (omega (arith, a .sound₁ .sized))
+                  ∙ (λ i. effect (a .same .settings i .features .p5) (a .same .events i) d (Counter m) (a .same .counters m le n i))
+                  ∙ sym (value-after d r₂ (Counter m) (omega (arith, a .sound₂ .sized)));
               instructions =
-                  λ n. instructions-after d r₁ ∙ ap (effectInstructions d) (a .same .instructions n) ∙ sym (instructions-after d r₂);
+                  λ n.
+                  value-after d r₁ Instructions tt
+                  ∙ (λ i. effect (a .same .settings i .features .p5) (a .same .events i) d Instructions (a .same .instructions n i))
+                  ∙ sym (value-after d r₂ Instructions tt);
             };
         sound₁ = sound-stays d (a .sound₁);
         sound₂ = sound-stays d (a .sound₂);
       }
 
 -- a named counter is kept
-pub kept-by : (x : Named) (d : Decision) (r : Machine) → Sound r → Hides x (viewOf r) d → Kept x r (apply d r .machine)
+pub kept-by : (x : Named) (d : Decision) (r : Machine) → Sound r → Hides x d → Kept x r (apply d r .machine)
 kept-by x d r s h =
     record {
       counters =
-          λ m le n. counter-after d r m (omega (arith, s .sized)) ∙ untouched (viewOf r) (r .events) d m _ (h .counter m n);
-      instructions = λ n. instructions-after d r ∙ instructions-untouched d _ (h .instructions n);
+          λ m le n.
+          value-after d r (Counter m) (omega (arith, s .sized))
+          ∙ untouched (r .settings .features .p5) (r .events) d (Counter m) _ (h (Counter m) n);
+      instructions =
+          λ n.
+          value-after d r Instructions tt ∙ untouched (r .settings .features .p5) (r .events) d Instructions _ (h Instructions n);
     }

@@ -1,36 +1,35 @@
--- What a decision leaves in a record: the level, settings and event numbers as they were, each counter by a function of that
--- counter alone, and no counter wider than before.
+-- What a decision leaves in a record: the level, settings and event numbers as they were, each place by a function of what it
+-- held alone, and no counter wider than before.
 use Prim.Native.Nat.{ℕ, _+_, _%_, _^_, _<_}
 use mathlib.Core.Bool.{Bool, true, false, cond, not, _&&_}
 use mathlib.Core.List.{List}
 use mathlib.Core.Path.{_≡_, refl, ap}
 use native.Mathlib.Nat.{mod-lt}
 use borrow.Author.Tests.{lt-leb}
-use lib.Dec.{leb, eqb, lit<}
-use lib.ListN.{getD, length, length-set}
+use lib.Dec.{leb, lit<}
+use lib.ListN.{length, length-set}
 use Rattle.machine.specs.declared.Machine.{Machine}
-use Rattle.state.specs.declared.View.{View}
 use Rattle.machine.specs.Machine.{withCounters, withInstructions}
 use Rattle.state.specs.State.{anyWide, viewOf}
 use Rattle.rules.specs.declared.Decision.{Decision}
-use Rattle.rules.specs.declared.Decision.the-variants.{Says, ReadCounter, WriteCounter, Increment, ReadInstructions, WriteInstructions}
-use Rattle.rules.specs.Permitted.{increments}
-use Rattle.rules.specs.Step.{width, plusOne, incremented, apply}
+use Rattle.rules.specs.declared.Decision.the-variants.{Says, Read, Write, Add}
+use Rattle.rules.specs.declared.Place.{Place}
+use Rattle.rules.specs.declared.Place.the-variants.{Counter, Instructions}
+use Rattle.rules.specs.Apply.{width, plusOne, added, incremented, valueAt, apply}
 use Rattle.rules.proofs.Places.{getD-set, length-mapFrom, getD-mapFrom, narrow-set, narrow-mapFrom}
-use Rattle.rules.proofs.Touches.{touches, touchesInstructions}
+use Rattle.rules.proofs.Touches.{samePlace, touches}
 
 -- the record afterwards: counters and instruction counter may be new, the rest is as it was
-rest-stays :
+pub rest-stays :
     (d : Decision) (r : Machine)
     → apply d r .machine
     ≡ withCounters (apply d r .machine .counters) (withInstructions (apply d r .machine .instructions) r)
 unfolding apply
 rest-stays (Says a) r = refl
-rest-stays (ReadCounter m t) r = refl
-rest-stays (WriteCounter m x) r = refl
-rest-stays (Increment x) r = refl
-rest-stays (ReadInstructions t) r = refl
-rest-stays (WriteInstructions x) r = refl
+rest-stays (Read p rt) r = refl
+rest-stays (Write (Counter m) x) r = refl
+rest-stays (Write Instructions x) r = refl
+rest-stays (Add mask) r = refl
 
 module _ (d : Decision) (r : Machine) where
   pub level-stays : apply d r .machine .level ≡ r .level
@@ -45,68 +44,54 @@ module _ (d : Decision) (r : Machine) where
 pub length-stays : (d : Decision) (r : Machine) → length (apply d r .machine .counters) ≡ length (r .counters)
 unfolding apply
 length-stays (Says a) r = refl
-length-stays (ReadCounter m t) r = refl
-length-stays (WriteCounter m x) r = simp length-set
-length-stays (Increment x) r = length-mapFrom _ 0 (r .counters)
-length-stays (ReadInstructions t) r = refl
-length-stays (WriteInstructions x) r = refl
+length-stays (Read p rt) r = refl
+length-stays (Write (Counter m) x) r = simp length-set
+length-stays (Write Instructions x) r = refl
+length-stays (Add mask) r = length-mapFrom _ 0 (r .counters)
 
--- what event counter i holds after a decision, from what it held before
-pub effect : View → List ℕ → Decision → ℕ → ℕ → ℕ
-effect v e (Says a) i y = y
-effect v e (ReadCounter m t) i y = y
-effect v e (WriteCounter m x) i y = cond (eqb m i) (x % 2 ^ width (v .settings)) y
-effect v e (Increment x) i y = incremented v e x i y
-effect v e (ReadInstructions t) i y = y
-effect v e (WriteInstructions x) i y = y
+-- what a place holds of a number written to it, and after an increment
+heldAt : Bool → Place → ℕ → ℕ
+heldAt p5 (Counter m) x = x % 2 ^ width p5
+heldAt p5 Instructions x = x
 
-pub counter-after :
-    (d : Decision) (r : Machine) (i : ℕ) → i < length (r .counters)
-    → getD (apply d r .machine .counters) i 0 ≡ effect (viewOf r) (r .events) d i (getD (r .counters) i 0)
-unfolding apply effect viewOf
-counter-after (Says a) r i h = refl
-counter-after (ReadCounter m t) r i h = refl
-counter-after (WriteCounter m x) r i h = getD-set (r .counters) m _ i h
-counter-after (Increment x) r i h = getD-mapFrom _ (r .counters) i h
-counter-after (ReadInstructions t) r i h = refl
-counter-after (WriteInstructions x) r i h = refl
+addedAt : Bool → List ℕ → ℕ → Place → ℕ → ℕ
+addedAt p5 e mask (Counter m) y = incremented p5 e mask m y
+addedAt p5 e mask Instructions y = y
 
--- a counter that the decision does not touch holds what it held
-pub untouched : (v : View) (e : List ℕ) (d : Decision) (i y : ℕ) → touches v i d ≡ false → effect v e d i y ≡ y
-unfolding effect incremented
-untouched v e (Says a) i y n = refl
-untouched v e (ReadCounter m t) i y n = refl
-untouched v e (WriteCounter m x) i y n = rw n
-untouched v e (Increment x) i y n = rw n
-untouched v e (ReadInstructions t) i y n = refl
-untouched v e (WriteInstructions x) i y n = refl
+-- what a place holds after a decision, from what it held before
+pub effect : Bool → List ℕ → Decision → Place → ℕ → ℕ
+effect p5 e (Says a) p y = y
+effect p5 e (Read q rt) p y = y
+effect p5 e (Write q x) p y = cond (samePlace q p) (heldAt p5 p x) y
+effect p5 e (Add mask) p y = addedAt p5 e mask p y
 
--- what the instruction counter holds after a decision
-pub effectInstructions : Decision → ℕ → ℕ
-effectInstructions (Says a) y = y
-effectInstructions (ReadCounter m t) y = y
-effectInstructions (WriteCounter m x) y = y
-effectInstructions (Increment x) y = y
-effectInstructions (ReadInstructions t) y = y
-effectInstructions (WriteInstructions x) y = x
+-- the record has the place
+abbrev pub Has : Machine → Place → Type 0
+Has r (Counter m) = m < length (r .counters)
+Has r Instructions = Unit {0}
 
-pub instructions-after : (d : Decision) (r : Machine) → apply d r .machine .instructions ≡ effectInstructions d (r .instructions)
-unfolding apply effectInstructions
-instructions-after (Says a) r = refl
-instructions-after (ReadCounter m t) r = refl
-instructions-after (WriteCounter m x) r = refl
-instructions-after (Increment x) r = refl
-instructions-after (ReadInstructions t) r = refl
-instructions-after (WriteInstructions x) r = refl
+pub value-after :
+    (d : Decision) (r : Machine) (p : Place) → Has r p
+    → valueAt p (apply d r .machine) ≡ effect (r .settings .features .p5) (r .events) d p (valueAt p r)
+unfolding apply effect heldAt addedAt
+value-after (Says a) r p h = refl
+value-after (Read q rt) r p h = refl
+value-after (Write (Counter m) x) r (Counter n) h = getD-set (r .counters) m _ n h
+value-after (Write (Counter m) x) r Instructions h = refl
+value-after (Write Instructions x) r (Counter n) h = refl
+value-after (Write Instructions x) r Instructions h = refl
+value-after (Add mask) r (Counter n) h = getD-mapFrom _ (r .counters) n h
+value-after (Add mask) r Instructions h = refl
 
-pub instructions-untouched : (d : Decision) (y : ℕ) → touchesInstructions d ≡ false → effectInstructions d y ≡ y
-unfolding effectInstructions
-instructions-untouched (Says a) y n = refl
-instructions-untouched (ReadCounter m t) y n = refl
-instructions-untouched (WriteCounter m x) y n = refl
-instructions-untouched (Increment x) y n = refl
-instructions-untouched (ReadInstructions t) y n = refl
-instructions-untouched (WriteInstructions x) y n = cc
+-- a place that the decision does not touch holds what it held
+pub untouched :
+    (p5 : Bool) (e : List ℕ) (d : Decision) (p : Place) (y : ℕ) → touches p d ≡ false → effect p5 e d p y ≡ y
+unfolding effect addedAt incremented
+untouched p5 e (Says a) p y n = refl
+untouched p5 e (Read q rt) p y n = refl
+untouched p5 e (Write q x) p y n = rw n
+untouched p5 e (Add mask) (Counter m) y n = rw n
+untouched p5 e (Add mask) Instructions y n = refl
 
 -- a number taken modulo 2^32 is not wide
 narrow-mod : (x : ℕ) → leb (2 ^ 32) (x % 2 ^ 32) ≡ false
@@ -116,23 +101,24 @@ narrow-cond : (b : Bool) (x y : ℕ) → leb (2 ^ 32) x ≡ false → leb (2 ^ 3
 narrow-cond true x y p q = p
 narrow-cond false x y p q = q
 
+-- an increment of 32 bits leaves a counter narrow
 narrow-incremented :
-    (v : View) (e : List ℕ) (x : ℕ) → v .settings .features .p5 ≡ false
-    → (i y : ℕ) → leb (2 ^ 32) y ≡ false → leb (2 ^ 32) (incremented v e x i y) ≡ false
+    (p5 : Bool) → p5 ≡ false → (e : List ℕ) (mask m y : ℕ) → leb (2 ^ 32) y ≡ false
+    → leb (2 ^ 32) (incremented p5 e mask m y) ≡ false
 unfolding incremented
-narrow-incremented v e x p i y n = narrow-cond (increments v x i && eqb (getD e i 0) 0) (plusOne (width (v .settings)) y) y (rw p (narrow-mod (y + 1))) n
+narrow-incremented p5 q e mask m y n = narrow-cond (added e mask m) (plusOne (width p5) y) y (rw q (narrow-mod (y + 1))) n
 
 -- where p5 is missing, no counter becomes wide
 pub narrow-stays :
     (d : Decision) (r : Machine) → r .settings .features .p5 ≡ false → anyWide (r .counters) ≡ false
     → anyWide (apply d r .machine .counters) ≡ false
-unfolding apply viewOf
+unfolding apply
 narrow-stays (Says a) r p n = n
-narrow-stays (ReadCounter m t) r p n = n
-narrow-stays (WriteCounter m x) r p n = narrow-set (r .counters) m _ (rw p (narrow-mod x)) n
-narrow-stays (Increment x) r p n = narrow-mapFrom (incremented (viewOf r) (r .events) x) (narrow-incremented (viewOf r) (r .events) x p) 0 (r .counters) n
-narrow-stays (ReadInstructions t) r p n = n
-narrow-stays (WriteInstructions x) r p n = n
+narrow-stays (Read q rt) r p n = n
+narrow-stays (Write (Counter m) x) r p n = narrow-set (r .counters) m _ (rw p (narrow-mod x)) n
+narrow-stays (Write Instructions x) r p n = n
+narrow-stays (Add mask) r p n =
+    narrow-mapFrom _ (narrow-incremented (r .settings .features .p5) p (r .events) mask) 0 (r .counters) n
 
 narrow-unless :
     (p w w′ : Bool) → not p && w ≡ false → (p ≡ false → w ≡ false → w′ ≡ false) → not p && w′ ≡ false

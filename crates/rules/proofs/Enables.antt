@@ -8,9 +8,10 @@ use borrow.Author.Tests.{lt-ltb, le-ltb, ne-eqb, ltb-true, ltb-false}
 use lib.Bits.{bitOr}
 use lib.Dec.{eqb, ltb}
 use Rattle.machine.specs.declared.Settings.{Settings}
-use Rattle.rules.specs.External.{externalWidth, shown, fromBits, shownOf, enablesWritten}
-use Rattle.rules.specs.Permitted.{bit}
-use Rattle.rules.proofs.FromBits.{digit, fromBits-suc, fromBits-ext, fromBits-mod, bit-fromBits, bit-or}
+use Rattle.bits.specs.Bits.{bit, fromBits}
+use Rattle.bits.proofs.Single.{bit-or}
+use Rattle.bits.proofs.FromBits.{digit, fromBits-suc, fromBits-ext, fromBits-mod, bit-fromBits}
+use Rattle.rules.specs.External.{externalWidth, shown, shownOf, enablesWritten}
 
 -- the bits of x below n among the first k
 pub low-all : (n x k : ℕ) → k ≤ n → fromBits k (λ m. ltb m n && bit m x) ≡ x % 2 ^ k

@@ -14,10 +14,12 @@ use Rattle.state.specs.declared.View.{View}
 use Rattle.machine.specs.Machine.{withLevel}
 use Rattle.state.specs.State.{viewOf}
 use Rattle.state.proofs.Consistent.{not-wide}
-use Rattle.fields.proofs.Below.{and-left, and-right}
+use Rattle.machine.proofs.Bools.{and-left, and-right}
 use Rattle.rules.specs.declared.Decision.{Decision}
 use Rattle.rules.specs.Isolation.{Named, Kept, Start, fromLevels, Isolated, Claim, fromHpmn, withoutP, instructionCounter, Noninterference, hpmnHides, pmuacrHides, f0Hides}
-use Rattle.rules.specs.Step.{Access, decide, apply, step, access, run}
+use Rattle.rules.specs.declared.Place.the-variants.{Counter, Instructions}
+use Rattle.rules.specs.Apply.{apply}
+use Rattle.rules.specs.Step.{Access, decide, step, access, run}
 use Rattle.rules.proofs.Alike.{Sound, Alike, Hides, view-alike, answers-alike, stays-alike, kept-by}
 use Rattle.rules.proofs.Applied.{settings-stay}
 use Rattle.rules.proofs.Hidden.{hpmn-hidden, pmuacr-hidden, f0-hidden}
@@ -59,18 +61,18 @@ record Once (x : Named) (r₁ r₂ : Machine) (o₁ o₂ : Outcome) : Type 0 whe
   kept₂ : Kept x r₂ (o₂ .machine)
 
 once-decided :
-    {x : Named} {r₁ r₂ : Machine} → Alike x r₁ r₂ → (d : Decision) → Hides x (viewOf r₁) d
+    {x : Named} {r₁ r₂ : Machine} → Alike x r₁ r₂ → (d : Decision) → Hides x d
     → Once x r₁ r₂ (apply d r₁) (apply d r₂)
 once-decided {x} {r₁} {r₂} a d h =
     record {
       answer = answers-alike x r₁ r₂ a d h;
       alike = stays-alike x r₁ r₂ a d;
       kept₁ = kept-by x d r₁ (a .sound₁) h;
-      kept₂ = kept-by x d r₂ (a .sound₂) (subst (λ (v : View). Hides x v d) (view-alike a) h);
+      kept₂ = kept-by x d r₂ (a .sound₂) h;
     }
 
 once :
-    {x : Named} {r₁ r₂ : Machine} → Alike x r₁ r₂ → (w y : ℕ) → Hides x (viewOf r₁) (decide (viewOf r₁) w y)
+    {x : Named} {r₁ r₂ : Machine} → Alike x r₁ r₂ → (w y : ℕ) → Hides x (decide (viewOf r₁) w y)
     → Once x r₁ r₂ (step w y r₁) (step w y r₂)
 unfolding step
 once {x} {r₁} {r₂} a w y h =
@@ -78,7 +80,7 @@ once {x} {r₁} {r₂} a w y h =
     (once-decided a (decide (viewOf r₁) w y) h)
 
 module _ (x : Named) (s : Settings) (top : ℕ)
-    (hides : (v : View) → v .settings ≡ s → leb (v .level) top ≡ true → (w y : ℕ) → Hides x v (decide v w y)) where
+    (hides : (v : View) → v .settings ≡ s → leb (v .level) top ≡ true → (w y : ℕ) → Hides x (decide v w y)) where
   isolated :
       (accesses : List Access) (r₁ r₂ : Machine) → fromLevels top accesses ≡ true → r₁ .settings ≡ s → Alike x r₁ r₂
       → Isolated x accesses r₁ r₂
@@ -108,12 +110,12 @@ module _ (x : Named) (s : Settings) (top : ℕ)
 -- a claim holds where no decision under such settings touches a counter named
 claim :
     (top : ℕ) (named : Settings → Named) (when : Settings → Bool)
-    → ((v : View) → when (v .settings) ≡ true → leb (v .level) top ≡ true → (w y : ℕ) → Hides (named (v .settings)) v (decide v w y))
+    → ((v : View) → when (v .settings) ≡ true → leb (v .level) top ≡ true → (w y : ℕ) → Hides (named (v .settings)) (decide v w y))
     → Claim top named when
 claim top named when hides r₁ r₂ accesses s₁ s₂ c l same =
     isolated (named (r₁ .settings)) (r₁ .settings) top
     (λ v e low w y.
-    subst (λ (s : Settings). Hides (named s) v (decide v w y)) e
+    subst (λ (s : Settings). Hides (named s) (decide v w y)) e
     (hides v (subst⁻¹ (λ (s : Settings). when s ≡ true) e c) low w y))
     accesses r₁ r₂ l refl
     (record { same = same; sound₁ = start-sound s₁; sound₂ = start-sound s₂ })
@@ -129,27 +131,26 @@ all-three a b c e =
 hpmn-hides :
     (v : View) → hpmnHides (v .settings) ≡ true → leb (v .level) 1 ≡ true
     → (w y : ℕ)
-    → Hides (fromHpmn (v .settings)) v (decide v w y)
-hpmn-hides v e low w y = record { counter = λ i n. hpmn-hidden v i e low n w y; instructions = λ n. cc }
+    → Hides (fromHpmn (v .settings)) (decide v w y)
+hpmn-hides v e low w y (Counter m) n = hpmn-hidden v m e low n w y
+hpmn-hides v e low w y Instructions n = cc
 
 pmuacr-hides :
     (v : View) → pmuacrHides (v .settings) ≡ true
     → leb (v .level) 0 ≡ true
     → (w y : ℕ)
-    → Hides (withoutP (v .settings)) v (decide v w y)
-pmuacr-hides v e low w y =
+    → Hides (withoutP (v .settings)) (decide v w y)
+pmuacr-hides v e low w y (Counter m) n =
     let t = all-three (v .settings .features .p9) (v .settings .pmuserenr .uen) (not (v .settings .pmuserenr .sw)) e in
-    record {
-      counter = λ i n. pmuacr-hidden v i (el0 (v .level) low) (t .0) (t .1) (not-true _ (t .2)) n w y;
-      instructions = λ n. cc;
-    }
+    pmuacr-hidden v m (el0 (v .level) low) (t .0) (t .1) (not-true _ (t .2)) n w y
+pmuacr-hides v e low w y Instructions n = cc
 
 f0-hides :
     (v : View) → f0Hides (v .settings) ≡ true → leb (v .level) 0 ≡ true
     → (w y : ℕ)
-    → Hides (instructionCounter (v .settings)) v (decide v w y)
-f0-hides v e low w y =
-    record { counter = λ i n. cc; instructions = λ n. f0-hidden v (el0 (v .level) low) (not-true _ e) w y }
+    → Hides (instructionCounter (v .settings)) (decide v w y)
+f0-hides v e low w y (Counter m) n = cc
+f0-hides v e low w y Instructions n = f0-hidden v (el0 (v .level) low) (not-true _ e) w y
 
 -- demand 3
 pub noninterference : Noninterference

@@ -2,8 +2,7 @@
 pub mod Worked
 pub mod Unchanged
 pub mod Decided
-pub mod Bits
-pub mod FromBits
+pub mod Mask
 pub mod Enables
 pub mod Touches
 pub mod Places

@@ -1,6 +1,6 @@
 -- Laws of lists of counters, place by place: a store, a map over the places, and the test of refusal 15 after either.
 use Prim.Native.Nat.{ℕ, zero, suc, _+_, _^_, _<_}
-use mathlib.Core.Bool.{Bool, true, false, cond, _||_}
+use mathlib.Core.Bool.{Bool, true, false, cond}
 use mathlib.Core.List.{List, [], _∷_}
 use mathlib.Core.Path.{_≡_, refl, sym, _∙_, ap}
 use native.Mathlib.Nat.{zero-add, add-zero}
@@ -9,8 +9,9 @@ use borrow.Author.Tests.{eqb-true, eqb-false}
 use lib.Dec.{leb, eqb}
 use lib.ListN.{getD, set, length}
 use lib.Seq.{getD-set-same, getD-set-other}
+use Rattle.machine.proofs.Bools.{or-left, or-right}
 use Rattle.state.specs.State.{anyWide}
-use Rattle.rules.specs.Step.{mapFrom}
+use Rattle.rules.specs.Apply.{mapFrom}
 
 -- place i after a store at place m
 pub getD-set : (l : List ℕ) (m x i : ℕ) → i < length l → getD (set l m x) i 0 ≡ cond (eqb m i) x (getD l i 0)
@@ -33,14 +34,6 @@ module _ (f : ℕ → ℕ → ℕ) where
   -- place i of a map over the places
   pub getD-mapFrom : (l : List ℕ) (i : ℕ) → i < length l → getD (mapFrom f 0 l) i 0 ≡ f i (getD l i 0)
   getD-mapFrom l i h = getD-from 0 l i h ∙ ap (λ j. f j (getD l i 0)) (zero-add i)
-
-or-left : (a b : Bool) → a || b ≡ false → a ≡ false
-or-left true b e = e
-or-left false b e = refl
-
-or-right : (a b : Bool) → a || b ≡ false → b ≡ false
-or-right true b e = cc
-or-right false b e = e
 
 -- no counter of a list is wide exactly where its first is not and none of the rest is
 module _ (y : ℕ) (ys : List ℕ) where

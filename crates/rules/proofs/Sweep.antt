@@ -8,7 +8,7 @@ use borrow.Author.Tests.{eq-eqb, ne-eqb, ltb-true, ltb-false}
 use lib.Dec.{eqb, ltb}
 use lib.ListN.{getD, set, length, length-set}
 use lib.Seq.{ext-getD, getD-set-same, getD-set-other}
-use Rattle.rules.specs.Step.{mapFrom}
+use Rattle.rules.specs.Apply.{mapFrom}
 use Rattle.rules.proofs.Places.{length-mapFrom, getD-mapFrom}
 
 module _ (f : ℕ → ℕ → ℕ) where

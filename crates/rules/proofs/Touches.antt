@@ -1,91 +1,119 @@
--- Which counter a decision touches, and that a decision which only says something touches none.
+-- Which places a decision touches, and how a permitted access that touches a place comes, or does not come, to be the decision.
 use Prim.Native.Nat.{ℕ}
-use mathlib.Core.Bool.{Bool, true, false, cond}
-use mathlib.Core.Path.{_≡_, subst⁻¹}
+use mathlib.Core.Bool.{Bool, true, false, cond, _||_}
+use mathlib.Core.Path.{_≡_, refl}
 use lib.Dec.{eqb}
 use Rattle.answer.specs.declared.Answer.{Answer}
-use Rattle.answer.specs.declared.Level.{Level}
+use Rattle.answer.specs.declared.Level.the-variants.{El3}
+use Rattle.bits.specs.Bits.{bit}
+use Rattle.machine.proofs.First.{testAt, gives, some-held}
 use Rattle.state.specs.declared.Verdict.{Verdict}
 use Rattle.state.specs.declared.Verdict.the-variants.{Consistent, Refused}
 use Rattle.state.specs.declared.View.{View}
 use Rattle.state.specs.State.{verdictOf}
 use Rattle.rules.specs.declared.Decision.{Decision}
-use Rattle.rules.specs.declared.Decision.the-variants.{Says, ReadCounter, WriteCounter, Increment, ReadInstructions, WriteInstructions}
+use Rattle.rules.specs.declared.Decision.the-variants.{Says, Read, Write, Add}
+use Rattle.rules.specs.declared.Instruction.{Instruction}
+use Rattle.rules.specs.declared.Place.{Place}
+use Rattle.rules.specs.declared.Place.the-variants.{Counter, Instructions}
 use Rattle.rules.specs.declared.Register.{Register}
 use Rattle.rules.specs.declared.Stop.{Stop}
-use Rattle.rules.specs.Word.{register}
-use Rattle.rules.specs.Permitted.{increments}
+use Rattle.rules.specs.Word.{decode}
+use Rattle.rules.specs.Traps.{haltedSdd, disabledTrap, stopAtEl3, counterRules, counterOrder}
+use Rattle.rules.specs.Permitted.{placeAccess}
 use Rattle.rules.specs.Step.{unlessStopped, undefinedAtOnce, stopOf, permitted, decideRegister, unlessRefused, decide}
-use Rattle.rules.specs.Traps.{rule1, rule2, rule3, rule4, rule5, rule6, disabledTrap, stopAtEl3, firstOfSix, counterOrder}
 
--- the decision reads or changes event counter i, under this view
-abbrev pub touches : View → ℕ → Decision → Bool
-touches v i (Says a) = false
-touches v i (ReadCounter m t) = eqb m i
-touches v i (WriteCounter m x) = eqb m i
-touches v i (Increment x) = increments v x i
-touches v i (ReadInstructions t) = false
-touches v i (WriteInstructions x) = false
+-- two places are one
+abbrev pub samePlace : Place → Place → Bool
+samePlace (Counter m) (Counter i) = eqb m i
+samePlace (Counter m) Instructions = false
+samePlace Instructions (Counter i) = false
+samePlace Instructions Instructions = true
 
--- the decision reads or changes the instruction counter
-abbrev pub touchesInstructions : Decision → Bool
-touchesInstructions (Says a) = false
-touchesInstructions (ReadCounter m t) = false
-touchesInstructions (WriteCounter m x) = false
-touchesInstructions (Increment x) = false
-touchesInstructions (ReadInstructions t) = true
-touchesInstructions (WriteInstructions x) = true
+-- a mask of event counters has the place
+abbrev pub inMask : ℕ → Place → Bool
+inMask mask (Counter i) = bit i mask
+inMask mask Instructions = false
 
--- for either test: it stays false on the way from the permitted access up to the decision
-module _ (f : Decision → Bool) (says : (a : Answer) → f (Says a) ≡ false) where
-  pub through-cond : (b : Bool) {d e : Decision} → f d ≡ false → f e ≡ false → f (cond b d e) ≡ false
-  through-cond true p q = p
-  through-cond false p q = q
+-- the decision reads or changes the place
+abbrev pub touches : Place → Decision → Bool
+touches p (Says a) = false
+touches p (Read q rt) = samePlace q p
+touches p (Write q x) = samePlace q p
+touches p (Add mask) = inMask mask p
 
-  through-stop : (w : ℕ) (s : Stop) {d : Decision} → f d ≡ false → f (unlessStopped w s d) ≡ false
-  through-stop w Stop.Pass p = p
-  through-stop w Stop.Undef p = says _
-  through-stop w (Stop.Trap l) p = says _
+-- the order of traps has come to its end
+passes : Stop → Bool
+passes Stop.Pass = true
+passes Stop.Undef = false
+passes (Stop.Trap l) = false
 
-  through-refusal : (t : Verdict) {d : Decision} → f d ≡ false → f (unlessRefused t d) ≡ false
-  through-refusal Consistent p = p
-  through-refusal (Refused r) p = says _
+-- no row of the order lets the access pass
+all-stop : (v : View) (disabled trapBit above : Bool) → gives passes (counterRules v disabled trapBit above) ≡ false
+unfolding counterRules disabledTrap stopAtEl3 passes
+all-stop v disabled trapBit above = go (haltedSdd v)
+  where
+    go : (h : Bool) → passes (cond h Stop.Undef (Stop.Trap El3)) || false ≡ false
+    go true = refl
+    go false = refl
 
-  -- where the permitted access of the register touches nothing, nor does the decision about it
+-- a place that is not touched by what is permitted is not touched on the way up to the decision
+module _ (p : Place) where
+  pub through-cond : (b : Bool) (d e : Decision) → touches p d ≡ false → touches p e ≡ false → touches p (cond b d e) ≡ false
+  through-cond true d e m n = m
+  through-cond false d e m n = n
+
+  through-stop : (syndrome : ℕ) (s : Stop) (d : Decision) → touches p d ≡ false → touches p (unlessStopped syndrome s d) ≡ false
+  through-stop syndrome Stop.Pass d n = n
+  through-stop syndrome Stop.Undef d n = refl
+  through-stop syndrome (Stop.Trap l) d n = refl
+
+  through-refusal : (t : Verdict) (d : Decision) → touches p d ≡ false → touches p (unlessRefused t d) ≡ false
+  through-refusal Consistent d n = n
+  through-refusal (Refused r) d n = refl
+
+  -- an access of another place
+  pub other-place :
+      (isDenied isReadOnly : Bool) (q : Place) (i : Instruction) (x : ℕ) → samePlace q p ≡ false
+      → touches p (placeAccess isDenied isReadOnly q i x) ≡ false
+  unfolding placeAccess
+  other-place isDenied isReadOnly q i x n =
+      through-cond (i .read) _ _ (through-cond isDenied _ _ refl n) (through-cond (isDenied || isReadOnly) _ _ refl n)
+
+  -- an access that is denied
+  pub denied-place :
+      (isDenied isReadOnly : Bool) (q : Place) (i : Instruction) (x : ℕ) → isDenied ≡ true
+      → touches p (placeAccess isDenied isReadOnly q i x) ≡ false
+  unfolding placeAccess
+  denied-place isDenied isReadOnly q i x e = rw e (through-cond (i .read) _ _ refl refl)
+
+  -- where the permitted access of the register does not touch it, nor does the decision about it
   pub through-register :
-      (v : View) (r : Register) (w x : ℕ) → f (permitted v r w x) ≡ false → f (decideRegister v r w x) ≡ false
+      (v : View) (r : Register) (i : Instruction) (x : ℕ) → touches p (permitted v r i x) ≡ false
+      → touches p (decideRegister v r i x) ≡ false
   unfolding decideRegister
-  through-register v r w x p =
-      through-cond (undefinedAtOnce v r w) (says _) (through-stop w (stopOf v r w) p)
+  through-register v r i x n =
+      through-cond (undefinedAtOnce v r (i .read)) _ _ refl (through-stop (i .syndrome) (stopOf v r (i .read)) _ n)
 
-  -- where the decision about every register touches nothing, nor does the decision
+  -- where the decision about no register touches it, nor does the decision
   pub through-decide :
-      (v : View) (w x : ℕ) → ((r : Register) → f (decideRegister v r w x) ≡ false) → f (decide v w x) ≡ false
+      (v : View) (w x : ℕ) → ((r : Register) → touches p (decideRegister v r (decode w) x) ≡ false)
+      → touches p (decide v w x) ≡ false
   unfolding decide
-  through-decide v w x p = through-refusal (verdictOf v) (p (register w))
+  through-decide v w x n = through-refusal (verdictOf v) _ (n (decode w .register))
 
-  by-5 :
-      (w : ℕ) (r1 r2 r3 r4 r6 : Bool) (l : Level) (el3 : Stop) (d : Decision)
-      → f (unlessStopped w (firstOfSix r1 r2 r3 r4 true r6 (Stop.Trap l) el3) d) ≡ false
-  unfolding firstOfSix
-  by-5 w true r2 r3 r4 r6 l el3 d = says _
-  by-5 w false true r3 r4 r6 l el3 d = says _
-  by-5 w false false true r4 r6 l el3 d = says _
-  by-5 w false false false true r6 l el3 d = says _
-  by-5 w false false false false r6 l el3 d = says _
+  stopped : (syndrome : ℕ) (s : Stop) (d : Decision) → passes s ≡ false → touches p (unlessStopped syndrome s d) ≡ false
+  unfolding passes
+  stopped syndrome Stop.Pass d n = cc
+  stopped syndrome Stop.Undef d n = refl
+  stopped syndrome (Stop.Trap l) d n = refl
 
-  -- where rule 5 applies, nothing is touched: whichever rule is first, the access is stopped
-  pub stopped-by-5 :
-      (w : ℕ) (v : View) (disabled trapBit above : Bool) (d : Decision) → rule5 v above ≡ true
-      → f (unlessStopped w (counterOrder v disabled trapBit above) d) ≡ false
-  unfolding counterOrder disabledTrap
-  stopped-by-5 w v disabled trapBit above d e =
-      subst⁻¹
-      (λ (r5 : Bool).
-      f
-      (unlessStopped w
-      (firstOfSix (rule1 v) (rule2 v disabled) (rule3 v trapBit) (rule4 v) r5 (rule6 v) (disabledTrap v) (stopAtEl3 v))
-      d)
-      ≡ false)
-      e
-      (by-5 w (rule1 v) (rule2 v disabled) (rule3 v trapBit) (rule4 v) (rule6 v) _ (stopAtEl3 v) d)
+  -- where row k of the order applies, nothing is touched: whichever row is first, the access is stopped
+  pub stopped-by :
+      (k syndrome : ℕ) (v : View) (disabled trapBit above : Bool) (d : Decision)
+      → testAt k (counterRules v disabled trapBit above) ≡ true
+      → touches p (unlessStopped syndrome (counterOrder v disabled trapBit above) d) ≡ false
+  unfolding counterOrder
+  stopped-by k syndrome v disabled trapBit above d t =
+      stopped syndrome _ d
+      (some-held passes Stop.Pass (counterRules v disabled trapBit above) k (all-stop v disabled trapBit above) t)

@@ -8,7 +8,8 @@ use Rattle.state.specs.declared.Verdict.the-variants.{Refused}
 use Rattle.machine.specs.Outcome.{refused}
 use Rattle.state.specs.State.{viewOf, verdictOf}
 use Rattle.rules.specs.External.{externalRead, externalWrite, tick}
-use Rattle.rules.specs.Step.{decide, apply, step}
+use Rattle.rules.specs.Apply.{apply}
+use Rattle.rules.specs.Step.{decide, step}
 
 module _ (n : Refusal) (r : Machine) (e : verdictOf (viewOf r) ≡ Refused n) where
   pub step-refused : (w x : ℕ) → step w x r ≡ refused n r

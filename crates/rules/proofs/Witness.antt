@@ -13,7 +13,7 @@ use Rattle.rules.specs.Example.{setAll, usual}
 use Rattle.rules.specs.Isolation.{Start, Isolated, fromLevels, fromHpmn, withoutP, instructionCounter}
 use Rattle.rules.specs.Step.{Access}
 use Rattle.rules.proofs.Isolation.{noninterference}
-use Rattle.state.specs.State.{viewOf, tooLarge, verdictOf}
+use Rattle.state.specs.State.{viewOf, tooLarge, refusals, verdictOf}
 
 one : Machine
 one = setAll ((0x23, 1) ∷ (0x65, 1) ∷ (0x7F, 1) ∷ []) usual
@@ -27,15 +27,15 @@ three : Machine
 three = setAll ((0x23, 1) ∷ (0x65, 1) ∷ (0x7F, 2) ∷ []) usual
 
 start-one : Start one
-unfolding one largest set store storeSettings storeFeatures storeMdcr2 storePmuacr setAll usual viewOf tooLarge verdictOf
+unfolding one largest set store storeSettings storeFeatures storeMdcr2 storePmuacr setAll usual viewOf tooLarge refusals verdictOf
 start-one = record { sized = refl; consistent = refl }
 
 start-two : Start two
-unfolding two largest set store storeSettings storeFeatures storeMdcr2 storePmuacr setAll usual viewOf tooLarge verdictOf
+unfolding two largest set store storeSettings storeFeatures storeMdcr2 storePmuacr setAll usual viewOf tooLarge refusals verdictOf
 start-two = record { sized = refl; consistent = refl }
 
 start-three : Start three
-unfolding three largest set store storeSettings storeFeatures storeMdcr2 storePmuacr setAll usual viewOf tooLarge verdictOf
+unfolding three largest set store storeSettings storeFeatures storeMdcr2 storePmuacr setAll usual viewOf tooLarge refusals verdictOf
 start-three = record { sized = refl; consistent = refl }
 
 -- counters other than 5 are equal in the first two

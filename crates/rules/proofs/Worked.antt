@@ -2,16 +2,28 @@
 use mathlib.Core.Bool.{true}
 use mathlib.Core.List.{List, map, _++_}
 use mathlib.Core.Path.{_≡_, refl}
+use Rattle.bits.specs.Bits.{fromBits}
 use Rattle.fields.specs.Largest.{largest}
 use Rattle.fields.specs.Set.{set}
 use Rattle.machine.specs.Machine.{withCnten}
-use Rattle.state.specs.State.{viewOf, tooLarge, verdictOf}
+use Rattle.state.specs.State.{viewOf, tooLarge, refusals, verdictOf}
 use Rattle.fields.specs.Store.{store, storeSettings, storeFeatures, storeMdcr2, storePmuacr}
-use Rattle.rules.specs.Word.{named, register, written, syndrome}
-use Rattle.rules.specs.Traps.{disabledTrap, stopAtEl3, firstOfSix, firstOfIcntr, icntrOrder, counterOrder, pmevcntrStop, pmswincStop, pmicntrStop}
-use Rattle.rules.specs.Permitted.{pmevcntrAccess, pmicntrAccess, increments}
-use Rattle.rules.specs.Step.{decideRegister, decide, incremented, apply, step}
-use Rattle.rules.specs.External.{fromBits, shownOf, enablesWritten, readOf, externalRead, writeOf, externalWrite, tickOf, tick}
+use Rattle.rules.specs.Word.{named, register, syndrome, decode, written}
+use Rattle.rules.specs.Traps.{
+  disabledTrap,
+  stopAtEl3,
+  counterRules,
+  counterOrder,
+  icntrRules,
+  icntrOrder,
+  pmevcntrStop,
+  pmswincStop,
+  pmicntrStop,
+}
+use Rattle.rules.specs.Permitted.{placeAccess, addMask}
+use Rattle.rules.specs.Apply.{incremented, apply}
+use Rattle.rules.specs.Step.{decideRegister, decide, step}
+use Rattle.rules.specs.External.{shownOf, enablesWritten, reach, tickOf, obeyed, externalRead, externalWrite, tick}
 use Rattle.rules.specs.Example.{Example, perform, performAll, setAll, valid, allValid, usual, start, actual, expected}
 use Rattle.rules.specs.Worked.{worked, misreadings}
 use Rattle.rules.specs.Further.{further}
@@ -22,7 +34,12 @@ Hold l = map actual l ≡ map expected l
 
 -- each of the three lists, computed
 hold : Hold worked × Hold misreadings × Hold further
-unfolding largest set withCnten viewOf tooLarge verdictOf store storeSettings storeFeatures storeMdcr2 storePmuacr named register written syndrome disabledTrap stopAtEl3 firstOfSix firstOfIcntr icntrOrder counterOrder pmevcntrStop pmswincStop pmicntrStop pmevcntrAccess pmicntrAccess increments decideRegister decide incremented apply step fromBits shownOf enablesWritten readOf externalRead writeOf externalWrite tickOf tick perform performAll setAll usual start actual expected worked misreadings further
+unfolding
+    largest set withCnten viewOf tooLarge refusals verdictOf store storeSettings storeFeatures storeMdcr2 storePmuacr
+    named register syndrome decode written disabledTrap stopAtEl3 counterRules counterOrder icntrRules icntrOrder
+    pmevcntrStop pmswincStop pmicntrStop placeAccess addMask decideRegister decide incremented apply step fromBits
+    shownOf enablesWritten reach tickOf obeyed externalRead externalWrite tick
+    perform performAll setAll usual start actual expected worked misreadings further
 hold = (refl, refl, refl)
 
 -- 01, "Soundings to prove"

@@ -1,6 +1,8 @@
--- 01, "Permitted accesses": external accesses to PMCNTENSET_EL0, and the tick.
-use Prim.Native.Nat.{ℕ, zero, suc, _+_, _^_}
-use mathlib.Core.Bool.{Bool, cond, not, _&&_, _||_}
+-- 01, "Permitted accesses": external accesses and the tick. What each offset's register shows and sets; how far an access at
+-- an offset gets, where each test stands once; and the one wrapper that tests the record first.
+use Prim.Native.Nat.{ℕ}
+use mathlib.Core.Bool.{Bool, true, false, cond, not, _&&_, _||_}
+use mathlib.Core.List.{List, [], _∷_}
 use lib.Dec.{ltb, eqb}
 use Rattle.answer.specs.declared.Answer.{Answer}
 use Rattle.machine.specs.declared.Machine.{Machine}
@@ -8,20 +10,16 @@ use Rattle.machine.specs.declared.Outcome.{Outcome}
 use Rattle.machine.specs.declared.Settings.{Settings}
 use Rattle.state.specs.declared.Verdict.{Verdict}
 use Rattle.state.specs.declared.Verdict.the-variants.{Consistent, Refused}
+use Rattle.machine.specs.First.{first}
 use Rattle.machine.specs.Machine.{withCnten, withInstructions}
 use Rattle.machine.specs.Outcome.{says, refused, done}
 use Rattle.state.specs.State.{viewOf, verdictOf}
-use Rattle.rules.specs.Permitted.{bit}
-use Rattle.rules.specs.Step.{plusOne}
-
--- "before all else, every .. external access and tick tests the record, lowest number first"
-abbrev pub unlessRefusedBy : Verdict → Machine → Outcome → Outcome
-unlessRefusedBy Consistent r o = o
-unlessRefusedBy (Refused n) r o = refused n r
-
--- "External, offset C00 (hexadecimal)": PMCNTENSET_EL0
-abbrev pub pmcntenset : ℕ
-pmcntenset = 0xC00
+use Rattle.rules.specs.declared.external.Request.{Request}
+use Rattle.rules.specs.declared.external.Request.the-variants.{Read, Write, Tick}
+use Rattle.rules.specs.declared.external.Reach.{Reach}
+use Rattle.rules.specs.declared.external.Reach.the-variants.{Other, Ignored, Error, Pmcntenset}
+use Rattle.bits.specs.Bits.{bit, fromBits}
+use Rattle.rules.specs.Apply.{plusOne}
 
 -- "neither EXT32 nor EXT64: reads 0, ignores writes"
 abbrev pub present : Settings → Bool
@@ -41,11 +39,6 @@ abbrev pub shown : Settings → ℕ → Bool
 shown s m =
     ((ltb m 31 && ltb m (s .features .n)) || eqb m 31 || (eqb m 32 && s .features .icntr)) && ltb m (externalWidth s)
 
--- the number below 2^k whose bit m is f m
-unfoldable pub fromBits : ℕ → (ℕ → Bool) → ℕ
-fromBits zero f = 0
-fromBits (suc k) f = fromBits k f + cond (f k) (2 ^ k) 0
-
 -- the bits of x that the register shows
 unfoldable pub shownOf : Settings → ℕ → ℕ
 shownOf s x = fromBits 33 (λ m. shown s m && bit m x)
@@ -58,28 +51,32 @@ enablesRead s = shownOf s (s .cnten)
 unfoldable pub enablesWritten : Settings → ℕ → ℕ
 enablesWritten s x = fromBits 33 (λ m. bit m (s .cnten) || (shown s m && bit m x))
 
--- an external read of a consistent record. "Other offsets answer `other`, tested before all of this."
-unfoldable pub readOf : ℕ → Machine → Outcome
-readOf offset r =
-    cond (not (eqb offset pmcntenset)) (says Answer.Other r)
-    (cond (not (present (r .settings))) (says (Answer.Value 0) r)
-    (cond (unreachable (r .settings)) (says Answer.Error r)
-    (says (Answer.Value (enablesRead (r .settings))) r)))
+-- what keeps an access from the register at its offset, the same for every register. "Software lock: writes are ignored."
+abbrev pub obstacles : Bool → Settings → List (Bool × Reach)
+obstacles writes s =
+    (not (present s), Ignored)
+    ∷ (unreachable s, Error)
+    ∷ (writes && s .external .softwarelock, Ignored)
+    ∷ []
 
-unfoldable pub externalRead : ℕ → Machine → Outcome
-externalRead offset r = unlessRefusedBy (verdictOf (viewOf r)) r (readOf offset r)
+-- how far an access at an offset gets: a row for each offset that has a register. "Other offsets answer `other`, tested before
+-- all of this."
+unfoldable pub reach : Bool → ℕ → Settings → Reach
+reach writes offset s = first ((eqb offset 0xC00, first (obstacles writes s) Pmcntenset) ∷ []) Other
 
--- an external write to a consistent record. "Software lock: writes are ignored."
-unfoldable pub writeOf : ℕ → ℕ → Machine → Outcome
-writeOf offset x r =
-    cond (not (eqb offset pmcntenset)) (says Answer.Other r)
-    (cond (not (present (r .settings))) (done r)
-    (cond (unreachable (r .settings)) (says Answer.Error r)
-    (cond (r .settings .external .softwarelock) (done r)
-    (done (withCnten (enablesWritten (r .settings) x) r)))))
+-- what a read answers that gets so far
+abbrev pub readOf : Reach → Settings → Answer
+readOf Other s = Answer.Other
+readOf Ignored s = Answer.Value 0
+readOf Error s = Answer.Error
+readOf Pmcntenset s = Answer.Value (enablesRead s)
 
-unfoldable pub externalWrite : ℕ → ℕ → Machine → Outcome
-externalWrite offset x r = unlessRefusedBy (verdictOf (viewOf r)) r (writeOf offset x r)
+-- what a write of x answers that gets so far, and the record after it
+abbrev pub writeOf : Reach → ℕ → Machine → Outcome
+writeOf Other x r = says Answer.Other r
+writeOf Ignored x r = done r
+writeOf Error x r = says Answer.Error r
+writeOf Pmcntenset x r = done (withCnten (enablesWritten (r .settings) x) r)
 
 -- "A tick is one executed instruction: with ICNTR, enable bit 32 set and counting not prohibited, PMICNTR adds 1, wrapping at
 -- 2^64."
@@ -89,5 +86,29 @@ tickOf prohibited r =
     (done (withInstructions (plusOne 64 (r .instructions)) r))
     (done r)
 
+-- what is requested of a consistent record
+unfoldable pub obeyed : Request → Machine → Outcome
+obeyed (Read offset) r = says (readOf (reach false offset (r .settings)) (r .settings)) r
+obeyed (Write offset x) r = writeOf (reach true offset (r .settings)) x r
+obeyed (Tick prohibited) r = tickOf prohibited r
+
+-- "before all else, every .. external access and tick tests the record, lowest number first"
+abbrev pub unlessRefusedBy : Verdict → Machine → Outcome → Outcome
+unlessRefusedBy Consistent r o = o
+unlessRefusedBy (Refused n) r o = refused n r
+
+-- what is requested of any record
+abbrev pub request : Request → Machine → Outcome
+request q r = unlessRefusedBy (verdictOf (viewOf r)) r (obeyed q r)
+
+-- the external read at an offset
+unfoldable pub externalRead : ℕ → Machine → Outcome
+externalRead offset r = request (Read offset) r
+
+-- the external write of x at an offset
+unfoldable pub externalWrite : ℕ → ℕ → Machine → Outcome
+externalWrite offset x r = request (Write offset x) r
+
+-- the tick, while counting is prohibited or not
 unfoldable pub tick : Bool → Machine → Outcome
-tick prohibited r = unlessRefusedBy (verdictOf (viewOf r)) r (tickOf prohibited r)
+tick prohibited r = request (Tick prohibited) r

@@ -11,7 +11,7 @@ use Rattle.machine.specs.declared.Settings.{Settings}
 use Rattle.state.specs.declared.Verdict.the-variants.{Consistent}
 use Rattle.machine.specs.Machine.{withLevel}
 use Rattle.state.specs.State.{viewOf, verdictOf}
-use Rattle.rules.specs.Permitted.{bit}
+use Rattle.bits.specs.Bits.{bit}
 use Rattle.rules.specs.Step.{Access, run}
 
 -- "the counters named": which event counters, and whether field 7F

@@ -3,6 +3,7 @@
 pub mod Word
 pub mod Traps
 pub mod Permitted
+pub mod Apply
 pub mod Step
 pub mod External
 pub mod Example

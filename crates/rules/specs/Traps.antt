@@ -2,8 +2,10 @@
 -- test of refusal 15.
 use Prim.Native.Nat.{ℕ}
 use mathlib.Core.Bool.{Bool, false, cond, not, _&&_, _||_}
+use mathlib.Core.List.{List, [], _∷_}
 use lib.Dec.{leb, eqb}
 use Rattle.answer.specs.declared.Level.the-variants.{El1, El2, El3}
+use Rattle.machine.specs.First.{first}
 use Rattle.state.specs.declared.View.{View}
 use Rattle.rules.specs.declared.Stop.{Stop}
 
@@ -34,7 +36,7 @@ notHostEl0 v = not (atEl0 v && v .settings .hcr .e2h && v .settings .hcr .tge)
 abbrev pub rule1 : View → Bool
 rule1 v = haveEl3 v && upTo 2 v && haltedSdd v && v .settings .features .el3prio && v .settings .mdcr3 .tpm
 
--- 2: "Level 0, the gate is shut": PMUSERENR has disabled the access
+-- 2: at EL0, where PMUSERENR has disabled the access (01: the gate is shut)
 abbrev pub rule2 : View → Bool → Bool
 rule2 v disabled = atEl0 v && disabled
 
@@ -69,21 +71,20 @@ disabledTrap v = Stop.Trap (cond (el2Enabled v && v .settings .hcr .tge) El2 El1
 unfoldable pub stopAtEl3 : View → Stop
 stopAtEl3 v = cond (haltedSdd v) Stop.Undef (Stop.Trap El3)
 
--- "PMEVCNTR and PMSWINC, first that applies", on the six rules' tests and the two stops that depend on the view
-unfoldable pub firstOfSix : Bool → Bool → Bool → Bool → Bool → Bool → Stop → Stop → Stop
-firstOfSix r1 r2 r3 r4 r5 r6 disabled el3 =
-    cond r1 Stop.Undef
-    (cond r2 disabled
-    (cond r3 (Stop.Trap El2)
-    (cond r4 (Stop.Trap El2)
-    (cond r5 (Stop.Trap El2)
-    (cond r6 el3 Stop.Pass)))))
+-- "PMEVCNTR and PMSWINC, first that applies": each rule's test and its stop, from whether PMUSERENR shuts the access out at EL0, the
+-- fine-grained bit of the register and direction, and whether m >= HPMN
+unfoldable pub counterRules : View → Bool → Bool → Bool → List (Bool × Stop)
+counterRules v disabled trapBit above =
+    (rule1 v, Stop.Undef)
+    ∷ (rule2 v disabled, disabledTrap v)
+    ∷ (rule3 v trapBit, Stop.Trap El2)
+    ∷ (rule4 v, Stop.Trap El2)
+    ∷ (rule5 v above, Stop.Trap El2)
+    ∷ (rule6 v, stopAtEl3 v)
+    ∷ []
 
--- the order for PMEVCNTR and PMSWINC, from whether PMUSERENR disables the access at EL0, the fine-grained bit of the register
--- and direction, and whether m >= HPMN
 unfoldable pub counterOrder : View → Bool → Bool → Bool → Stop
-counterOrder v disabled trapBit above =
-    firstOfSix (rule1 v) (rule2 v disabled) (rule3 v trapBit) (rule4 v) (rule5 v above) (rule6 v) (disabledTrap v) (stopAtEl3 v)
+counterOrder v disabled trapBit above = first (counterRules v disabled trapBit above) Stop.Pass
 
 -- m >= HPMN
 abbrev pub atOrAboveHpmn : View → ℕ → Bool
@@ -131,20 +132,19 @@ icntrRule3 v nPMICNTR = el2Enabled v && upTo 1 v && notHostEl0 v && v .settings 
 abbrev pub icntrRule5 : View → Bool
 icntrRule5 v = haveEl3 v && upTo 2 v && not (v .settings .mdcr3 .enpm2)
 
--- the first of PMICNTR's rules that applies, on their tests and the stop at EL3
-unfoldable pub firstOfIcntr : Bool → Bool → Bool → Bool → Bool → Bool → Stop → Stop
-firstOfIcntr r1 r2 r3 r4 r5 r6 el3 =
-    cond r1 Stop.Undef
-    (cond r2 (Stop.Trap El2)
-    (cond r3 (Stop.Trap El2)
-    (cond r4 (Stop.Trap El2)
-    (cond r5 el3
-    (cond r6 el3 Stop.Pass)))))
-
 -- the order for PMICNTR, from the fine-grained bit of the direction. "Page 004 has no PMUSERENR gate here."
+unfoldable pub icntrRules : View → Bool → List (Bool × Stop)
+icntrRules v nPMICNTR =
+    (icntrRule1 v, Stop.Undef)
+    ∷ (icntrRule2 v, Stop.Trap El2)
+    ∷ (icntrRule3 v nPMICNTR, Stop.Trap El2)
+    ∷ (rule4 v, Stop.Trap El2)
+    ∷ (icntrRule5 v, stopAtEl3 v)
+    ∷ (rule6 v, stopAtEl3 v)
+    ∷ []
+
 unfoldable pub icntrOrder : View → Bool → Stop
-icntrOrder v nPMICNTR =
-    firstOfIcntr (icntrRule1 v) (icntrRule2 v) (icntrRule3 v nPMICNTR) (rule4 v) (icntrRule5 v) (rule6 v) (stopAtEl3 v)
+icntrOrder v nPMICNTR = first (icntrRules v nPMICNTR) Stop.Pass
 
 -- PMICNTR: the fine-grained bits are 2F and 30, of HDFGRTR2_EL2 and HDFGWTR2_EL2
 unfoldable pub pmicntrStop : View → Bool → Stop

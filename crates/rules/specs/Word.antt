@@ -1,13 +1,11 @@
 -- 01, "Instruction words": a word taken apart, the register that it names, what a write stores, and the syndrome of a trap.
-use Prim.Native.Nat.{ℕ, _+_, _-_, _*_, _/_, _%_, _^_}
+use Prim.Native.Nat.{ℕ, _+_, _*_, _%_, _^_}
 use mathlib.Core.Bool.{Bool, cond, _&&_}
 use lib.Dec.{leb, eqb}
+use Rattle.bits.specs.Bits.{bits}
+use Rattle.rules.specs.declared.Instruction.{Instruction}
 use Rattle.rules.specs.declared.Register.{Register}
 use Rattle.rules.specs.declared.Register.the-variants.{Pmevcntr, Pmswinc, Pmicntr, Other}
-
--- bits high:low of a number
-abbrev pub bits : ℕ → ℕ → ℕ → ℕ
-bits high low w = w / 2 ^ low % 2 ^ (high + 1 - low)
 
 -- "Bits 31:22 are 0x354, .. bit 20 is 1"
 abbrev pub isMrsMsr : ℕ → Bool
@@ -51,10 +49,6 @@ named n m o =
 unfoldable pub register : ℕ → Register
 register w = cond (isMrsMsr w && eqb (op0 w) 3 && eqb (op1 w) 3) (named (crn w) (crm w) (op2 w)) Other
 
--- "With Rt 31 a write's operand is 0. A read's operand is not looked at.": only writes use this
-unfoldable pub written : ℕ → ℕ → ℕ
-written w operand = cond (eqb (rt w) 31) 0 operand
-
 -- "the syndrome, 32 bits: 0x18 in 31:26, 1 in bit 25, op0 21:20, op2 19:17, op1 16:14, CRn 13:10, Rt 9:5, CRm 4:1, direction in
 -- bit 0 (1 read)"
 unfoldable pub syndrome : ℕ → ℕ
@@ -68,3 +62,11 @@ syndrome w =
     + rt w * 2 ^ 5
     + crm w * 2
     + direction w
+
+-- a word taken apart, once for all that follows
+unfoldable pub decode : ℕ → Instruction
+decode w = record { register = register w; read = isRead w; rt = rt w; syndrome = syndrome w }
+
+-- "With Rt 31 a write's operand is 0. A read's operand is not looked at.": only writes use this
+unfoldable pub written : Instruction → ℕ → ℕ
+written i operand = cond (eqb (i .rt) 31) 0 operand

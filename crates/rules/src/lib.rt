@@ -1,5 +1,7 @@
 // The types of document 01's rules on accesses. The rules are definitions, in specs/, and what is proved of them stands in
 // proofs/. The code that runs by them is in the crates above, whose contracts cite these definitions.
+pub mod external; // external.rt: what comes from outside, and how far it gets
+
 use answer::Answer;
 use answer::Level;
 
@@ -11,6 +13,14 @@ pub enum Register {
     Other,
 }
 
+// An MRS or MSR word taken apart: the register that it names, whether it is a read (MRS), Rt, and the syndrome of a trap.
+pub struct Instruction {
+    pub register: Register,
+    pub read: bool,
+    pub rt: u8,
+    pub syndrome: u32,
+}
+
 // What the order of traps says of an access: it is permitted, undefined, or trapped to a level.
 pub enum Stop {
     Pass,
@@ -18,13 +28,17 @@ pub enum Stop {
     Trap(Level),
 }
 
-// What an access is to do. `Says` answers and changes nothing; each other case names the counter that it touches, but for
-// `Increment`, which goes by the bits of its operand.
+// What an access can read or write in the record: an event counter by its number, or the instruction counter.
+pub enum Place {
+    Counter(u64),
+    Instructions,
+}
+
+// All that an access is to do: answer and change nothing; read one place into Rt; write one place; or add 1 to event counters by a
+// mask, in which the bits that are ignored are 0.
 pub enum Decision {
     Says(Answer),
-    ReadCounter { m: u64, rt: u8 },
-    WriteCounter { m: u64, value: u64 },
-    Increment { operand: u64 },
-    ReadInstructions { rt: u8 },
-    WriteInstructions { value: u64 },
+    Read { place: Place, rt: u8 },
+    Write { place: Place, value: u64 },
+    Add { mask: u64 },
 }

@@ -1,66 +1,47 @@
 -- A consistent record passes every test; and it is consistent at level 0 too.
-use mathlib.Core.Bool.{Bool, true, false, _||_}
-use mathlib.Core.Path.{_≡_, refl}
+use Prim.Native.Nat.{ℕ}
+use mathlib.Core.Bool.{Bool, true, false, _||_, or-false}
+use mathlib.Core.Path.{_≡_, refl, _∙_}
 use lib.Dec.{ltb}
-use Rattle.state.specs.declared.Verdict.the-variants.{Consistent}
+use Rattle.machine.proofs.Bools.{or-left}
+use Rattle.machine.proofs.First.{testAt, all-fell}
+use Rattle.state.specs.declared.Verdict.{Verdict}
+use Rattle.state.specs.declared.Verdict.the-variants.{Consistent, Refused}
 use Rattle.state.specs.declared.View.{View}
-use Rattle.state.specs.State.{exceeds, tooLarge, levelUnavailable, el2Unimplemented, hpmnAboveN, hpmnZero, counterTooWide, tgeAtEl1, featureMissing, firstRefusal, verdictOf}
+use Rattle.state.specs.State.{exceeds, tooLarge, refusals, verdictOf}
 
--- no refusal, so no test held
-passed :
-    (r10 r11 r12 r13 r14 r15 r16 r17 : Bool) → firstRefusal r10 r11 r12 r13 r14 r15 r16 r17 ≡ Consistent
-    → (r10 ≡ false) × (r12 ≡ false) × (r13 ≡ false) × (r14 ≡ false) × (r15 ≡ false) × (r17 ≡ false)
-passed true r11 r12 r13 r14 r15 r16 r17 e = (cc, cc, cc, cc, cc, cc)
-passed false true r12 r13 r14 r15 r16 r17 e = (cc, cc, cc, cc, cc, cc)
-passed false false true r13 r14 r15 r16 r17 e = (cc, cc, cc, cc, cc, cc)
-passed false false false true r14 r15 r16 r17 e = (cc, cc, cc, cc, cc, cc)
-passed false false false false true r15 r16 r17 e = (cc, cc, cc, cc, cc, cc)
-passed false false false false false true r16 r17 e = (cc, cc, cc, cc, cc, cc)
-passed false false false false false false true r17 e = (cc, cc, cc, cc, cc, cc)
-passed false false false false false false false true e = (cc, cc, cc, cc, cc, cc)
-passed false false false false false false false false e = (refl, refl, refl, refl, refl, refl)
+isConsistent : Verdict → Bool
+isConsistent Consistent = true
+isConsistent (Refused n) = false
 
--- the tests that do not look at the level
 module _ (v : View) (e : verdictOf v ≡ Consistent) where
-  tests :
-      (tooLarge v ≡ false)
-      × (el2Unimplemented v ≡ false)
-      × (hpmnAboveN v ≡ false)
-      × (hpmnZero v ≡ false)
-      × (counterTooWide v ≡ false)
-      × (featureMissing v ≡ false)
-  unfolding verdictOf
-  tests =
-      passed (tooLarge v) (levelUnavailable v) (el2Unimplemented v) (hpmnAboveN v) (hpmnZero v) (counterTooWide v) (tgeAtEl1 v)
-      (featureMissing v)
-      e
+  -- no row of the table applies
+  pub passed : (i : ℕ) → testAt i (refusals v) ≡ false
+  unfolding verdictOf refusals isConsistent
+  passed = all-fell isConsistent Consistent (refusals v) refl (rw e)
 
-  -- it does not meet refusal 15
+  -- refusal 15's row among them
   pub not-wide : v .wide ≡ false
-  not-wide = tests .4
+  unfolding refusals
+  not-wide = passed 5
 
 -- the view with its level put to 0
-abbrev pub atEl0 : View → View
-atEl0 v = record { level = 0; settings = v .settings; wide = v .wide }
+abbrev pub levelledTo0 : View → View
+levelledTo0 v = record { level = 0; settings = v .settings; wide = v .wide }
 
-or-left : (a b : Bool) → a || b ≡ false → a || false ≡ false
-or-left true b e = e
-or-left false b e = refl
-
-large-at-el0 : (v : View) → tooLarge v ≡ false → tooLarge (atEl0 v) ≡ false
+large-at-0 : (v : View) → tooLarge v ≡ false → tooLarge (levelledTo0 v) ≡ false
 unfolding tooLarge
-large-at-el0 v e =
-    or-left
-    (exceeds (v .settings .features .n) 0x0C
+large-at-0 v e =
+    let numbers =
+    exceeds (v .settings .features .n) 0x0C
     || exceeds (v .settings .mdcr2 .hpmn) 0x27
     || exceeds (v .settings .pmuacr .p) 0x32
-    || exceeds (v .settings .cnten) 0x34)
-    (ltb 3 (v .level))
-    e
+    || exceeds (v .settings .cnten) 0x34 in
+    or-false numbers ∙ or-left numbers (ltb 3 (v .level)) e
 
--- 01, "Two machines under one list": "(a record consistent at any level does that)"
-pub consistent-at-el0 : (v : View) → verdictOf v ≡ Consistent → verdictOf (atEl0 v) ≡ Consistent
-unfolding verdictOf
-consistent-at-el0 v e =
-    let t = tests v e in
-    rw (large-at-el0 v (t .0), t .1, t .2, t .3, t .4, t .5)
+-- a record that is consistent at some level is so at level 0: the tests of rows 0, 2, 3, 4, 5 and 7 do not look at the level, or ask
+-- for one above
+pub consistent-at-0 : (v : View) → verdictOf v ≡ Consistent → verdictOf (levelledTo0 v) ≡ Consistent
+unfolding verdictOf refusals
+consistent-at-0 v e =
+    let p = passed v e in rw (large-at-0 v (p 0), p 2, p 3, p 4, p 5, p 7)

@@ -1,10 +1,21 @@
 -- The state refusals 10 to 17 (01, "Refused because of the state"), as tests on what a decision may look at.
 use Prim.Native.Nat.{ℕ, _^_}
-use mathlib.Core.Bool.{Bool, false, cond, not, _&&_, _||_}
+use mathlib.Core.Bool.{Bool, false, not, _&&_, _||_}
 use mathlib.Core.List.{List, [], _∷_}
 use lib.Dec.{leb, ltb, eqb}
-use Rattle.answer.specs.declared.Refusal.the-variants.{FieldTooLarge, LevelUnavailable, El2Unimplemented, HpmnAboveN, HpmnZero, CounterTooWide, TgeAtEl1, FeatureMissing}
+use Rattle.answer.specs.declared.Refusal.the-variants.{
+  FieldTooLarge,
+  LevelUnavailable,
+  El2Unimplemented,
+  HpmnAboveN,
+  HpmnZero,
+  CounterTooWide,
+  TgeAtEl1,
+  FeatureMissing,
+}
 use Rattle.machine.specs.declared.Machine.{Machine}
+use Rattle.machine.specs.declared.Settings.{Settings}
+use Rattle.machine.specs.First.{first}
 use Rattle.state.specs.declared.View.{View}
 use Rattle.state.specs.declared.Verdict.{Verdict}
 use Rattle.state.specs.declared.Verdict.the-variants.{Consistent, Refused}
@@ -16,13 +27,11 @@ anyWide [] = false
 anyWide (x ∷ xs) = leb (2 ^ 32) x || anyWide xs
 
 -- what a decision about an access may look at: the level, the settings and, of the counters, refusal 15's test alone
+abbrev pub viewAt : ℕ → Settings → List ℕ → View
+viewAt l s counters = record { level = l; settings = s; wide = not (s .features .p5) && anyWide counters }
+
 unfoldable pub viewOf : Machine → View
-viewOf m =
-    record {
-      level = m .level;
-      settings = m .settings;
-      wide = not (m .settings .features .p5) && anyWide (m .counters);
-    }
+viewOf m = viewAt (m .level) (m .settings) (m .counters)
 
 -- the field's largest value is below v
 abbrev pub exceeds : ℕ → ℕ → Bool
@@ -70,21 +79,19 @@ featureMissing v =
     ((v .settings .features .p5 || v .settings .features .p9 || v .settings .features .icntr) && not (v .settings .features .pmuv3))
     || (v .settings .features .p9 && not (v .settings .features .p5))
 
--- "lowest number first"; "A record that meets none of these is consistent."
-abbrev pub firstRefusal : Bool → Bool → Bool → Bool → Bool → Bool → Bool → Bool → Verdict
-firstRefusal r10 r11 r12 r13 r14 r15 r16 r17 =
-    cond r10 (Refused FieldTooLarge)
-    (cond r11 (Refused LevelUnavailable)
-    (cond r12 (Refused El2Unimplemented)
-    (cond r13 (Refused HpmnAboveN)
-    (cond r14 (Refused HpmnZero)
-    (cond r15 (Refused CounterTooWide)
-    (cond r16 (Refused TgeAtEl1)
-    (cond r17 (Refused FeatureMissing) Consistent)))))))
+-- the state test that every access, external access and tick begins with: a row for each refusal, lowest number first
+unfoldable pub refusals : View → List (Bool × Verdict)
+refusals v =
+    (tooLarge v, Refused FieldTooLarge)
+    ∷ (levelUnavailable v, Refused LevelUnavailable)
+    ∷ (el2Unimplemented v, Refused El2Unimplemented)
+    ∷ (hpmnAboveN v, Refused HpmnAboveN)
+    ∷ (hpmnZero v, Refused HpmnZero)
+    ∷ (counterTooWide v, Refused CounterTooWide)
+    ∷ (tgeAtEl1 v, Refused TgeAtEl1)
+    ∷ (featureMissing v, Refused FeatureMissing)
+    ∷ []
 
--- the state test that every access, external access and tick begins with
+-- a record is consistent where no row applies
 unfoldable pub verdictOf : View → Verdict
-verdictOf v =
-    firstRefusal (tooLarge v) (levelUnavailable v) (el2Unimplemented v) (hpmnAboveN v) (hpmnZero v) (counterTooWide v)
-    (tgeAtEl1 v)
-    (featureMissing v)
+verdictOf v = first (refusals v) Consistent

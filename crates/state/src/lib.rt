@@ -1,6 +1,6 @@
 // What a decision about an access may look at, and the state test: refusals 10 to 17, lowest number first.
 ghost use mathlib.Core.Path.{_≡_};
-ghost use Rattle.state.specs.State.{anyWide, viewOf, firstRefusal, verdictOf};
+ghost use Rattle.state.specs.State.{anyWide, viewAt, viewOf, verdictOf};
 use answer::Refusal;
 use machine::Machine;
 use machine::Settings;
@@ -18,47 +18,7 @@ pub enum Verdict {
     Refused(Refusal),
 }
 
-// The refusal of the first test that holds.
-fn first_refusal(
-    r10: bool,
-    r11: bool,
-    r12: bool,
-    r13: bool,
-    r14: bool,
-    r15: bool,
-    r16: bool,
-    r17: bool,
-) -> Verdict
-    ensures { λ r. ⌜ r ≡ firstRefusal r10 r11 r12 r13 r14 r15 r16 r17 ⌝ }
-{
-    if r10 {
-        return Verdict::Refused(Refusal::FieldTooLarge);
-    }
-    if r11 {
-        return Verdict::Refused(Refusal::LevelUnavailable);
-    }
-    if r12 {
-        return Verdict::Refused(Refusal::El2Unimplemented);
-    }
-    if r13 {
-        return Verdict::Refused(Refusal::HpmnAboveN);
-    }
-    if r14 {
-        return Verdict::Refused(Refusal::HpmnZero);
-    }
-    if r15 {
-        return Verdict::Refused(Refusal::CounterTooWide);
-    }
-    if r16 {
-        return Verdict::Refused(Refusal::TgeAtEl1);
-    }
-    if r17 {
-        return Verdict::Refused(Refusal::FeatureMissing);
-    }
-    Verdict::Consistent
-}
-
-// The state test, on what a decision may look at.
+// The state test, on what a decision may look at: the first test that holds, in the order of `refusals`.
 pub fn verdict_of(v: View) -> Verdict
     ensures { λ r. ⌜ r ≡ verdictOf v ⌝ }
 {
@@ -67,20 +27,42 @@ pub fn verdict_of(v: View) -> Verdict
     let has = s.features;
     let el2enabled = s.execution.el2enabled;
     let hpmn = s.mdcr2.hpmn;
-    first_refusal(
-        (31 < has.n)
-            | (31 < hpmn)
-            | (0x7FFFFFFF < s.pmuacr.p)
-            | (0x1FFFFFFFF < s.cnten)
-            | (3 < level),
-        ((level == 3) & !has.el3) | ((level == 2) & !el2enabled),
-        el2enabled & !has.el2,
-        has.el2 & (has.n < hpmn),
-        has.el2 & (hpmn == 0) & !has.hpmn0,
-        v.wide,
-        (level == 1) & el2enabled & s.hcr.tge,
-        ((has.p5 | has.p9 | has.icntr) & !has.pmuv3) | (has.p9 & !has.p5),
-    )
+    let too_large = (31 < has.n)
+        | (31 < hpmn)
+        | (0x7FFFFFFF < s.pmuacr.p)
+        | (0x1FFFFFFFF < s.cnten)
+        | (3 < level);
+    let level_unavailable = ((level == 3) & !has.el3) | ((level == 2) & !el2enabled);
+    let el2_unimplemented = el2enabled & !has.el2;
+    let hpmn_above_n = has.el2 & (has.n < hpmn);
+    let hpmn_zero = has.el2 & (hpmn == 0) & !has.hpmn0;
+    let tge_at_el1 = (level == 1) & el2enabled & s.hcr.tge;
+    let feature_missing = ((has.p5 | has.p9 | has.icntr) & !has.pmuv3) | (has.p9 & !has.p5);
+    if too_large {
+        return Verdict::Refused(Refusal::FieldTooLarge);
+    }
+    if level_unavailable {
+        return Verdict::Refused(Refusal::LevelUnavailable);
+    }
+    if el2_unimplemented {
+        return Verdict::Refused(Refusal::El2Unimplemented);
+    }
+    if hpmn_above_n {
+        return Verdict::Refused(Refusal::HpmnAboveN);
+    }
+    if hpmn_zero {
+        return Verdict::Refused(Refusal::HpmnZero);
+    }
+    if v.wide {
+        return Verdict::Refused(Refusal::CounterTooWide);
+    }
+    if tge_at_el1 {
+        return Verdict::Refused(Refusal::TgeAtEl1);
+    }
+    if feature_missing {
+        return Verdict::Refused(Refusal::FeatureMissing);
+    }
+    Verdict::Consistent
 }
 
 // Some counter is 2^32 or more. No branch leaves the loop, so that it compiles to a few instructions for all counters.
@@ -96,21 +78,28 @@ fn any_wide(counters: &[u64]) -> bool
     found
 }
 
-// What a decision may look at. The counters are read only where p5 is missing.
-pub fn view_of(m: Machine) -> View
-    ensures { λ v. ⌜ v ≡ viewOf m ⌝ }
+// What a decision may look at, of a record with these parts. The counters are read only where p5 is missing.
+pub fn view_at(level: u8, s: Settings, counters: &[u64]) -> View
+    ensures { λ v. ⌜ v ≡ viewAt level s (now (counters .entry)) ⌝ }
 {
-    let settings = m.settings;
-    if settings.features.p5 {
+    if s.features.p5 {
         return View {
-            level: m.level,
-            settings: settings,
+            level: level,
+            settings: s,
             wide: false,
         };
     }
     View {
-        level: m.level,
-        settings: settings,
-        wide: any_wide(&m.counters),
+        level: level,
+        settings: s,
+        wide: any_wide(counters),
     }
+}
+
+// What a decision may look at.
+pub fn view_of(m: Machine) -> View
+    ensures { λ v. ⌜ v ≡ viewOf m ⌝ }
+{
+    let settings = m.settings;
+    view_at(m.level, settings, &m.counters)
 }

@@ -7,22 +7,24 @@ use mathlib.Core.Path.{_≡_, refl, ap}
 use native.Mathlib.Omega.{arith}
 use borrow.Author.Tests.{le-ltb, ltb-false, eqb-true}
 use lib.Dec.{ltb, eqb}
-use Rattle.answer.specs.declared.Answer.{Answer}
 use Rattle.answer.specs.declared.Refusal.the-variants.{UnknownField, ValueTooLarge, LevelTooLarge}
 use Rattle.command.specs.declared.Command.{Command}
 use Rattle.machine.specs.declared.Machine.{Machine}
 use Rattle.machine.specs.declared.Outcome.{Outcome}
 use Rattle.machine.specs.Machine.{fresh, withLevel, withCnten, withInstructions}
-use Rattle.machine.specs.Outcome.{says, refused, done}
+use Rattle.machine.specs.Outcome.{refused, done}
 use Rattle.fields.specs.Largest.{largest, isField}
 use Rattle.fields.specs.Store.{number, store, storeSettings, storeFeatures, storeMdcr2, storePmuacr}
 use Rattle.fields.specs.Set.{set, setLevel}
 use Rattle.state.specs.declared.Verdict.{Verdict}
 use Rattle.state.specs.declared.Verdict.the-variants.{Consistent, Refused}
 use Rattle.state.specs.State.{viewOf, tooLarge, verdictOf}
-use Rattle.rules.specs.Step.{decide, step, plusOne}
-use Rattle.rules.specs.Permitted.{bit}
-use Rattle.rules.specs.External.{pmcntenset, present, unreachable, enablesRead, enablesWritten, unlessRefusedBy, readOf, writeOf, tickOf, externalRead, externalWrite, tick}
+use Rattle.rules.specs.Apply.{plusOne}
+use Rattle.rules.specs.Step.{decide, step}
+use Rattle.bits.specs.Bits.{bit}
+use Rattle.rules.specs.declared.external.Reach.{Reach}
+use Rattle.rules.specs.declared.external.Request.{Request}
+use Rattle.rules.specs.External.{enablesWritten, reach, writeOf, tickOf, obeyed, unlessRefusedBy, externalRead, externalWrite, tick}
 use Rattle.rules.proofs.Applied.{settings-stay, level-stays}
 use Rattle.rules.proofs.Enables.{written-union}
 use Rattle.transcript.specs.Session.{execute}
@@ -99,18 +101,8 @@ module _ (r : Machine) (b : Bounded r) where
   unless-refused (Refused n) o h = b
 
   read-bounded : (offset : ℕ) → Bounded (externalRead offset r .machine)
-  unfolding externalRead readOf
-  read-bounded offset =
-      unless-refused (verdictOf (viewOf r)) (readOf offset r)
-      (go (not (eqb offset pmcntenset)) (not (present (r .settings))) (unreachable (r .settings)))
-    where
-      go :
-          (a c d : Bool)
-          → Bounded (cond a (says Answer.Other r) (cond c (says (Answer.Value 0) r) (cond d (says Answer.Error r) (says (Answer.Value (enablesRead (r .settings))) r))) .machine)
-      go true c d = b
-      go false true d = b
-      go false false true = b
-      go false false false = b
+  unfolding externalRead obeyed
+  read-bounded offset = unless-refused (verdictOf (viewOf r)) (obeyed (Request.Read offset) r) b
 
   written-bounded : (x : ℕ) → Bounded (withCnten (enablesWritten (r .settings) x) r)
   unfolding withCnten
@@ -123,25 +115,21 @@ module _ (r : Machine) (b : Bounded r) where
         level = b .level;
       }
 
+  reached-bounded : (t : Reach) (x : ℕ) → Bounded (writeOf t x r .machine)
+  reached-bounded Reach.Other x = b
+  reached-bounded Reach.Ignored x = b
+  reached-bounded Reach.Error x = b
+  reached-bounded Reach.Pmcntenset x = written-bounded x
+
   write-bounded : (offset x : ℕ) → Bounded (externalWrite offset x r .machine)
-  unfolding externalWrite writeOf
+  unfolding externalWrite obeyed
   write-bounded offset x =
-      unless-refused (verdictOf (viewOf r)) (writeOf offset x r)
-      (go (not (eqb offset pmcntenset)) (not (present (r .settings))) (unreachable (r .settings)) (r .settings .external .softwarelock))
-    where
-      go :
-          (a c d l : Bool)
-          → Bounded (cond a (says Answer.Other r) (cond c (done r) (cond d (says Answer.Error r) (cond l (done r) (done (withCnten (enablesWritten (r .settings) x) r))))) .machine)
-      go true c d l = b
-      go false true d l = b
-      go false false true l = b
-      go false false false true = b
-      go false false false false = written-bounded x
+      unless-refused (verdictOf (viewOf r)) (obeyed (Request.Write offset x) r) (reached-bounded (reach true offset (r .settings)) x)
 
   tick-bounded : (prohibited : Bool) → Bounded (tick prohibited r .machine)
-  unfolding tick tickOf
+  unfolding tick tickOf obeyed
   tick-bounded prohibited =
-      unless-refused (verdictOf (viewOf r)) (tickOf prohibited r)
+      unless-refused (verdictOf (viewOf r)) (obeyed (Request.Tick prohibited) r)
       (go (r .settings .features .icntr && bit 32 (r .settings .cnten) && not prohibited))
     where
       go : (a : Bool) → Bounded (cond a (done (withInstructions (plusOne 64 (r .instructions)) r)) (done r) .machine)

@@ -3,12 +3,13 @@ use mathlib.Core.List.{map}
 use mathlib.Core.Path.{_≡_, refl}
 use Rattle.fields.specs.Largest.{largest}
 use Rattle.fields.specs.Set.{set, setLevel}
-use Rattle.state.specs.State.{viewOf, tooLarge, verdictOf}
+use Rattle.state.specs.State.{viewOf, tooLarge, refusals, verdictOf}
 use Rattle.fields.specs.Store.{store, storeSettings, storeFeatures, storeMdcr2, storePmuacr}
-use Rattle.rules.specs.Word.{named, register, written, syndrome}
-use Rattle.rules.specs.Traps.{disabledTrap, stopAtEl3, firstOfSix, counterOrder, pmevcntrStop}
-use Rattle.rules.specs.Permitted.{pmevcntrAccess}
-use Rattle.rules.specs.Step.{decideRegister, decide, apply, step}
+use Rattle.rules.specs.Word.{named, register, syndrome, decode, written}
+use Rattle.rules.specs.Traps.{disabledTrap, stopAtEl3, counterRules, counterOrder, pmevcntrStop}
+use Rattle.rules.specs.Permitted.{placeAccess}
+use Rattle.rules.specs.Apply.{apply}
+use Rattle.rules.specs.Step.{decideRegister, decide, step}
 use Rattle.text.specs.Text.{bytes, decimal, hex}
 use Rattle.command.specs.Command.{commandOf}
 use Rattle.line.specs.Line.{textOf, lineOf}
@@ -16,5 +17,9 @@ use Rattle.transcript.specs.Session.{execute, answersFrom, linesFrom, an
 use Rattle.transcript.specs.Example.{Example, examples}
 
 pub examples-hold : map (λ (e : Example). outputOf (e .input)) examples ≡ map (λ (e : Example). bytes (e .output)) examples
-unfolding largest set setLevel viewOf tooLarge verdictOf store storeSettings storeFeatures storeMdcr2 storePmuacr named register written syndrome disabledTrap stopAtEl3 firstOfSix counterOrder pmevcntrStop pmevcntrAccess decideRegister decide apply step decimal hex commandOf textOf lineOf execute answersFrom linesFrom answersOf outputOf examples
+unfolding
+    largest set setLevel viewOf tooLarge refusals verdictOf store storeSettings storeFeatures storeMdcr2 storePmuacr
+    named register syndrome decode written disabledTrap stopAtEl3 counterRules counterOrder pmevcntrStop placeAccess
+    decideRegister decide apply step decimal hex commandOf textOf lineOf
+    execute answersFrom linesFrom answersOf outputOf examples
 examples-hold = refl

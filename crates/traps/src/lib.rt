@@ -1,7 +1,7 @@
 // The order of traps (01, "Order of traps"): each rule's test, and the first that applies.
 ghost use mathlib.Core.Path.{_≡_};
 ghost use mathlib.Core.Bool.{cond};
-ghost use Rattle.rules.specs.Traps.{disabledTrap, stopAtEl3, firstOfSix, counterOrder, pmevcntrStop, pmswincStop, firstOfIcntr, icntrOrder, pmicntrStop};
+ghost use Rattle.rules.specs.Traps.{disabledTrap, stopAtEl3, counterOrder, pmevcntrStop, pmswincStop, icntrOrder, pmicntrStop};
 use answer::Level;
 use rules::Stop;
 use state::View;
@@ -33,42 +33,8 @@ fn stop_at_el3(v: View) -> Stop
     Stop::Trap(Level::El3)
 }
 
-// PMEVCNTR and PMSWINC: the first rule that applies.
-fn first_of_six(
-    r1: bool,
-    r2: bool,
-    r3: bool,
-    r4: bool,
-    r5: bool,
-    r6: bool,
-    disabled: Stop,
-    el3: Stop,
-) -> Stop
-    ensures { λ r. ⌜ r ≡ firstOfSix r1 r2 r3 r4 r5 r6 disabled el3 ⌝ }
-{
-    if r1 {
-        return Stop::Undef;
-    }
-    if r2 {
-        return disabled;
-    }
-    if r3 {
-        return Stop::Trap(Level::El2);
-    }
-    if r4 {
-        return Stop::Trap(Level::El2);
-    }
-    if r5 {
-        return Stop::Trap(Level::El2);
-    }
-    if r6 {
-        return el3;
-    }
-    Stop::Pass
-}
-
-// The order for PMEVCNTR and PMSWINC, from whether PMUSERENR disables the access at EL0, the fine-grained bit, and whether
-// m >= HPMN.
+// The order for PMEVCNTR and PMSWINC, from whether PMUSERENR shuts it out at EL0, the fine-grained bit, and whether
+// m >= HPMN: rules 1 to 6.
 fn counter_order(v: View, disabled: bool, trap_bit: bool, above: bool) -> Stop
     ensures { λ r. ⌜ r ≡ counterOrder v disabled «trap_bit» above ⌝ }
 {
@@ -78,16 +44,36 @@ fn counter_order(v: View, disabled: bool, trap_bit: bool, above: bool) -> Stop
     let el3 = s.features.el3;
     let halted_sdd = s.execution.halted & s.execution.sdd;
     let not_host_el0 = !((level == 0) & s.hcr.e2h & s.hcr.tge);
-    first_of_six(
-        el3 & (level <= 2) & halted_sdd & s.features.el3prio & s.mdcr3.tpm,
-        (level == 0) & disabled,
-        el2 & (level <= 1) & not_host_el0 & s.features.fgt & (!el3 | s.scr.fgten) & trap_bit,
-        el2 & (level <= 1) & s.mdcr2.tpm,
-        el2 & (level <= 1) & above,
-        el3 & (level <= 2) & s.mdcr3.tpm,
-        disabled_trap(v),
-        stop_at_el3(v),
-    )
+    let rule1 = el3 & (level <= 2) & halted_sdd & s.features.el3prio & s.mdcr3.tpm;
+    let rule2 = (level == 0) & disabled;
+    let rule3 = el2
+        & (level <= 1)
+        & not_host_el0
+        & s.features.fgt
+        & (!el3 | s.scr.fgten)
+        & trap_bit;
+    let rule4 = el2 & (level <= 1) & s.mdcr2.tpm;
+    let rule5 = el2 & (level <= 1) & above;
+    let rule6 = el3 & (level <= 2) & s.mdcr3.tpm;
+    if rule1 {
+        return Stop::Undef;
+    }
+    if rule2 {
+        return disabled_trap(v);
+    }
+    if rule3 {
+        return Stop::Trap(Level::El2);
+    }
+    if rule4 {
+        return Stop::Trap(Level::El2);
+    }
+    if rule5 {
+        return Stop::Trap(Level::El2);
+    }
+    if rule6 {
+        return stop_at_el3(v);
+    }
+    Stop::Pass
 }
 
 // The order of traps for PMEVCNTR<m>.
@@ -113,31 +99,6 @@ pub fn pmswinc_stop(v: View) -> Stop
     )
 }
 
-// PMICNTR: the first rule that applies.
-fn first_of_icntr(i1: bool, i2: bool, i3: bool, i4: bool, i5: bool, i6: bool, el3: Stop) -> Stop
-    ensures { λ r. ⌜ r ≡ firstOfIcntr i1 i2 i3 i4 i5 i6 el3 ⌝ }
-{
-    if i1 {
-        return Stop::Undef;
-    }
-    if i2 {
-        return Stop::Trap(Level::El2);
-    }
-    if i3 {
-        return Stop::Trap(Level::El2);
-    }
-    if i4 {
-        return Stop::Trap(Level::El2);
-    }
-    if i5 {
-        return el3;
-    }
-    if i6 {
-        return el3;
-    }
-    Stop::Pass
-}
-
 // The order for PMICNTR, from the fine-grained bit of the direction, by which the access is allowed.
 fn icntr_order(v: View, allowed: bool) -> Stop
     ensures { λ r. ⌜ r ≡ icntrOrder v allowed ⌝ }
@@ -148,15 +109,35 @@ fn icntr_order(v: View, allowed: bool) -> Stop
     let el3 = s.features.el3;
     let halted_sdd = s.execution.halted & s.execution.sdd;
     let not_host_el0 = !((level == 0) & s.hcr.e2h & s.hcr.tge);
-    first_of_icntr(
-        el3 & (level <= 2) & halted_sdd & s.features.el3prio & (!s.mdcr3.enpm2 | s.mdcr3.tpm),
-        el2 & (level <= 1) & not_host_el0 & s.features.fgt2 & el3 & !s.scr.fgten2,
-        el2 & (level <= 1) & not_host_el0 & s.features.fgt2 & !allowed,
-        el2 & (level <= 1) & s.mdcr2.tpm,
-        el3 & (level <= 2) & !s.mdcr3.enpm2,
-        el3 & (level <= 2) & s.mdcr3.tpm,
-        stop_at_el3(v),
-    )
+    let rule1 = el3
+        & (level <= 2)
+        & halted_sdd
+        & s.features.el3prio
+        & (!s.mdcr3.enpm2 | s.mdcr3.tpm);
+    let rule2 = el2 & (level <= 1) & not_host_el0 & s.features.fgt2 & el3 & !s.scr.fgten2;
+    let rule3 = el2 & (level <= 1) & not_host_el0 & s.features.fgt2 & !allowed;
+    let rule4 = el2 & (level <= 1) & s.mdcr2.tpm;
+    let rule5 = el3 & (level <= 2) & !s.mdcr3.enpm2;
+    let rule6 = el3 & (level <= 2) & s.mdcr3.tpm;
+    if rule1 {
+        return Stop::Undef;
+    }
+    if rule2 {
+        return Stop::Trap(Level::El2);
+    }
+    if rule3 {
+        return Stop::Trap(Level::El2);
+    }
+    if rule4 {
+        return Stop::Trap(Level::El2);
+    }
+    if rule5 {
+        return stop_at_el3(v);
+    }
+    if rule6 {
+        return stop_at_el3(v);
+    }
+    Stop::Pass
 }
 
 // The order of traps for PMICNTR.

@@ -1,6 +1,7 @@
-// An instruction word taken apart: the register that it names, its direction and Rt, what a write stores, and the syndrome.
+// An instruction word taken apart, once: the register that it names, its direction and Rt, and the syndrome; and what a write stores.
 ghost use mathlib.Core.Path.{_≡_};
-ghost use Rattle.rules.specs.Word.{isRead, rt, named, register, written, syndrome};
+ghost use Rattle.rules.specs.Word.{named, register, syndrome, decode, written};
+use rules::Instruction;
 use rules::Register;
 
 // The register by CRn, CRm and op2, of the words with op0 3 and op1 3.
@@ -28,7 +29,7 @@ fn named(crn: u8, crm: u8, op2: u8) -> Register
 }
 
 // The register that a word names: `Other` for every word that names none of the three.
-pub fn register(w: u32) -> Register
+fn register(w: u32) -> Register
     ensures { λ r. ⌜ r ≡ register w ⌝ }
 {
     let is_move = ((w >> 22) % 1024 == 0x354) & ((w >> 20) % 2 == 1);
@@ -42,29 +43,8 @@ pub fn register(w: u32) -> Register
     Register::Other
 }
 
-// The word is a read, MRS.
-pub fn is_read(w: u32) -> bool
-    ensures { λ r. ⌜ r ≡ isRead w ⌝ }
-{
-    (w >> 21) % 2 == 1
-}
-
-// Rt, the number of the general register.
-pub fn rt(w: u32) -> u8
-    ensures { λ r. ⌜ r ≡ rt w ⌝ }
-{
-    (w % 32) as u8
-}
-
-// What a write stores: with Rt 31 the operand is 0.
-pub fn written(w: u32, operand: u64) -> u64
-    ensures { λ r. ⌜ r ≡ written w operand ⌝ }
-{
-    if w % 32 == 31 { 0 } else { operand }
-}
-
 // The syndrome of a trapped access.
-pub fn syndrome(w: u32) -> u32
+fn syndrome(w: u32) -> u32
     ensures { λ r. ⌜ r ≡ syndrome w ⌝ }
 {
     0x18 * 0x4000000
@@ -76,4 +56,24 @@ pub fn syndrome(w: u32) -> u32
         + w % 32 * 0x20
         + (w >> 8) % 16 * 2
         + (w >> 21) % 2
+}
+
+// A word taken apart.
+pub fn decode(w: u32) -> Instruction
+    ensures { λ i. ⌜ i ≡ decode w ⌝ }
+{
+    let register = register(w);
+    Instruction {
+        register: register,
+        read: (w >> 21) % 2 == 1,
+        rt: (w % 32) as u8,
+        syndrome: syndrome(w),
+    }
+}
+
+// What a write stores: with Rt 31 the operand is 0.
+pub fn written(i: Instruction, operand: u64) -> u64
+    ensures { λ r. ⌜ r ≡ written i operand ⌝ }
+{
+    if i.rt == 31 { 0 } else { operand }
 }

@@ -1,30 +1,47 @@
--- `access::apply` meets its contract: a case for each branch, by the contracts of what it calls.
-use Rattle.rules.specs.Step.{apply}
+-- `access::apply` meets its contract: a case for each decision and place, by the contracts of what it calls.
+use mathlib.Core.Path.{refl}
+use Rattle.rules.specs.Apply.{apply}
 use borrow.Author.Needs.{needs}
 use Rattle.access.proofs.apply.Statement.{statement}
 use Rattle.access.proofs.apply.Tie as tie
 
 returns : tie.Need-returns
 unfolding apply
-returns c = simp (c .before .d .given .1)
+returns c = λ l. simp (c .before .d .given .1) (record { answer = refl; instructions = refl; counters = refl })
 
 returns-2 : tie.Need-returns-2
 unfolding apply
-returns-2 c = simp (c .before .before .before .before .d2 .given .1, c .read .ensures)
+returns-2 c =
+    let at-place = c .before .before .before in
+    let at-d2 = at-place .before .before .before in
+    λ l. simp (at-d2 .d2 .given .1, at-place .place .given .1) (record { answer = simp (c .read .ensures); instructions = refl; counters = refl })
 
 returns-3 : tie.Need-returns-3
-returns-3 c = simp (c .before .before .d3 .given .1) (c .write-counter .ensures)
+unfolding apply
+returns-3 c =
+    let at-d2 = c .before .before .before in
+    λ l. simp (at-d2 .d2 .given .1, c .enum-told .given .1) (record { answer = refl; instructions = refl; counters = refl })
 
 returns-4 : tie.Need-returns-4
-returns-4 c = simp (c .before .before .d4 .given .1) (c .increment .ensures)
+unfolding apply
+returns-4 c =
+    let at-store = c .before .before in
+    let at-place2 = at-store .before .before .before in
+    let at-d3 = at-place2 .before .before .before in
+    λ l. simp (at-d3 .d3 .given .1, at-place2 .place2 .given .1) (record { answer = refl; instructions = refl; counters = at-store .store .ensures })
 
 returns-5 : tie.Need-returns-5
 unfolding apply
-returns-5 c = simp (c .before .d5 .given .1)
+returns-5 c =
+    let at-d3 = c .before .before .before in
+    λ l. simp (at-d3 .d3 .given .1, c .enum-told2 .given .1) (record { answer = refl; instructions = refl; counters = refl })
 
 returns-6 : tie.Need-returns-6
 unfolding apply
-returns-6 c = simp (c .before .d6 .given .1)
+returns-6 c =
+    let at-increment = c .before .before in
+    let at-d4 = at-increment .before .before .before in
+    λ l. simp (at-d4 .d4 .given .1) (record { answer = refl; instructions = refl; counters = at-increment .increment .ensures })
 
 pub apply-spec : {M : Type 1} → statement M
 apply-spec =
@@ -35,14 +52,18 @@ apply-spec =
     (λ c. search needs)
     (λ c κs. tt)
     (λ c. search needs)
+    (λ c. search needs)
+    (λ c. search needs)
     (λ c κs. tt)
     (λ c. search needs)
+    (λ c. search needs)
     (λ c κs. tt)
-    (λ c. search needs)
-    (λ c. search needs)
     returns
+    (λ c. search needs)
     returns-2
     returns-3
+    (λ c. search needs)
     returns-4
     returns-5
+    (λ c. search needs)
     returns-6)

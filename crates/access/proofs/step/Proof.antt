@@ -1,12 +1,12 @@
--- `access::step` meets its contract.
-use mathlib.Core.Path.{_∙_, ap}
-use Rattle.rules.specs.Step.{decide, apply, step}
+-- `access::step` meets its contract: the parts that were lent and those that stayed make the record of the definition.
+use Rattle.access.proofs.Whole.{whole}
 use Rattle.access.proofs.step.Statement.{statement}
 use Rattle.access.proofs.step.Tie as tie
 
 returns : tie.Need-returns
-unfolding step
-returns c = c .apply .ensures ∙ ap (λ d. apply d (c .before .before .before .args .r)) (c .before .decide .ensures ∙ ap (λ v. decide v (c .before .before .before .args .w) (c .before .before .before .args .x)) (c .before .before .view-of .ensures))
+returns c =
+    let at-start = c .before .before .before .before .before .before in
+    whole _ _ (at-start .args .r) _ _ (c .lent .ensures)
 
 pub step-spec : {M : Type 1} → statement M
-step-spec = tie.close (tie.spec (λ c κs. tt) (λ c κs. tt) (λ c κs. tt) returns)
+step-spec = tie.close (tie.spec (λ c κs. tt) returns)

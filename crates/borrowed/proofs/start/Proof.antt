@@ -8,8 +8,13 @@ use Rattle.borrowed.proofs.start.Tie as tie
 
 returns : tie.Need-returns
 returns c =
+    let at-with2 = c .before .before in
+    let at-with = at-with2 .before in
+    let at-fresh = at-with .before in
     ap (λ (o : Outcome). o .machine) (c .before .set-level .ensures)
-    ∙ ap (λ (m : Machine). setLevel 1 m .machine) (c .before .before .with2 .ensures ∙ ap (λ (m : Machine). set 12 2 m .machine) (c .before .before .before .with .ensures ∙ ap (λ (m : Machine). set 0 1 m .machine) (c .before .before .before .before .fresh .ensures)))
+    ∙ ap (λ (m : Machine). setLevel 1 m .machine) (at-with2 .with2 .ensures)
+    ∙ ap (λ (m : Machine). setLevel 1 (set 12 2 m .machine) .machine) (at-with .with .ensures)
+    ∙ ap (λ (m : Machine). setLevel 1 (set 12 2 (set 0 1 m .machine) .machine) .machine) (at-fresh .fresh .ensures)
 
 pub start-spec : {M : Type 1} → statement M
 start-spec = tie.close (tie.spec (λ c κs. tt) (λ c κs. tt) (λ c κs. tt) (λ c κs. tt) returns)

@@ -1,33 +1,18 @@
--- `decide::decide_register` meets its contract: a case for each branch, by the contracts of what it calls.
-use borrow.Author.Needs.{needs}
+-- `decide::decide_register` meets its contract: undefined at once, or in the order of traps.
+use mathlib.Core.Path.{sym, _∙_}
+use Rattle.rules.proofs.Decided.{at-once, in-order}
 use Rattle.decide.proofs.decide_register.Statement.{statement}
 use Rattle.decide.proofs.decide_register.Tie as tie
 
 returns : tie.Need-returns
-returns c = simp (c .before .before .r .given .1) (c .pmevcntr .ensures)
+returns c = at-once _ _ _ _ (sym (c .before .undefined-at-once .ensures) ∙ c .if1 .taken)
 
 returns-2 : tie.Need-returns-2
-returns-2 c = simp (c .before .enum-told .given .1) (c .pmswinc .ensures)
-
-returns-3 : tie.Need-returns-3
-returns-3 c = simp (c .before .enum-told2 .given .1) (c .pmicntr .ensures)
-
-returns-4 : tie.Need-returns-4
-unfolding Rattle.rules.specs.Step.decideRegister
-returns-4 c = simp (c .enum-told3 .given .1)
+returns-2 c =
+    let at-stop-of = c .before .before in
+    let at-if1 = at-stop-of .before in
+    let at-undefined-at-once = at-if1 .before in
+    c .unless-stopped .ensures ∙ in-order _ _ _ _ (sym (at-undefined-at-once .undefined-at-once .ensures) ∙ at-if1 .if1 .left) (at-stop-of .stop-of .ensures) (c .before .permitted .ensures)
 
 pub decide-register-spec : {M : Type 1} → statement M
-decide-register-spec =
-    tie.close
-    (tie.spec
-    (λ c. search needs)
-    (λ c κs. tt)
-    (λ c. search needs)
-    (λ c κs. tt)
-    (λ c. search needs)
-    (λ c κs. tt)
-    (λ c. search needs)
-    returns
-    returns-2
-    returns-3
-    returns-4)
+decide-register-spec = tie.close (tie.spec (λ c κs. tt) returns (λ c κs. tt) (λ c κs. tt) (λ c κs. tt) returns-2)

@@ -1,25 +1,11 @@
--- `external::read` meets its contract: a case for each branch, by the contracts of what it calls.
-use mathlib.Core.Path.{sym, _∙_}
+-- `external::read` meets its contract: that of `request`.
 use Rattle.rules.specs.External.{externalRead}
-use borrow.Author.Needs.{needs}
 use Rattle.external.proofs.read.Statement.{statement}
 use Rattle.external.proofs.read.Tie as tie
 
 returns : tie.Need-returns
 unfolding externalRead
-returns c = simp (sym (c .before .before .before .verdict .ensures) ∙ c .before .n .given .1)
-
-returns-2 : tie.Need-returns-2
-unfolding externalRead
-returns-2 c = simp (sym (c .before .before .before .verdict .ensures) ∙ c .before .enum-told .given .1) (c .read-of .ensures)
+returns c = c .request .ensures
 
 pub read-spec : {M : Type 1} → statement M
-read-spec =
-    tie.close
-    (tie.spec
-    (λ c κs. tt)
-    (λ c. search needs)
-    (λ c. search needs)
-    (λ c κs. tt)
-    returns
-    returns-2)
+read-spec = tie.close (tie.spec (λ c κs. tt) returns)

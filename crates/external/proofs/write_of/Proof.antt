@@ -1,39 +1,33 @@
--- `external::write_of` meets its contract: a case for each branch, by the contracts of what it calls.
-use mathlib.Core.Path.{sym, _∙_}
-use borrow.Author.Tests.{eq-eqb, ne-eqb}
-use Rattle.rules.specs.External.{writeOf}
+-- `external::write_of` meets its contract: a case for each reach.
+use borrow.Author.Needs.{needs}
 use Rattle.external.proofs.write_of.Statement.{statement}
 use Rattle.external.proofs.write_of.Tie as tie
 
 returns : tie.Need-returns
-unfolding writeOf
-returns c = simp (ne-eqb _ _ (c .if1 .taken))
+returns c = simp (c .enum-told .given .1)
 
 returns-2 : tie.Need-returns-2
-unfolding writeOf
-returns-2 c = simp (eq-eqb _ _ (c .before .before .if1 .left), c .if2 .taken)
+returns-2 c = simp (c .enum-told2 .given .1)
 
 returns-3 : tie.Need-returns-3
-unfolding writeOf
-returns-3 c = simp (eq-eqb _ _ (c .before .before .before .before .if1 .left), c .before .before .if2 .left, sym (c .before .unreachable .ensures) ∙ c .if3 .taken)
+returns-3 c = simp (c .enum-told3 .given .1)
 
 returns-4 : tie.Need-returns-4
-unfolding writeOf
-returns-4 c = simp (eq-eqb _ _ (c .before .before .before .before .before .if1 .left), c .before .before .before .if2 .left, sym (c .before .before .unreachable .ensures) ∙ c .before .if3 .left, c .if4 .taken)
-
-returns-5 : tie.Need-returns-5
-unfolding writeOf
-returns-5 c = simp (eq-eqb _ _ (c .before .before .before .before .before .before .before .if1 .left), c .before .before .before .before .before .if2 .left, sym (c .before .before .before .before .unreachable .ensures) ∙ c .before .before .before .if3 .left, c .before .before .if4 .left, c .with-cnten .ensures, c .before .written .ensures)
+returns-4 c =
+    let at-enum-told4 = c .before .before in
+    simp (at-enum-told4 .enum-told4 .given .1, c .with-cnten .ensures, c .before .written .ensures)
 
 pub write-of-spec : {M : Type 1} → statement M
 write-of-spec =
     tie.close
     (tie.spec
+    (λ c. search needs)
+    (λ c. search needs)
+    (λ c. search needs)
+    (λ c. search needs)
+    (λ c κs. tt)
+    (λ c κs. tt)
     returns
     returns-2
-    (λ c κs. tt)
     returns-3
-    returns-4
-    (λ c κs. tt)
-    (λ c κs. tt)
-    returns-5)
+    returns-4)

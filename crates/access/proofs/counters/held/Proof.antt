@@ -1,4 +1,4 @@
--- `access::counters::held` meets its contract: a case for each branch, by the contracts of what it calls.
+-- `access::counters::held` meets its contract: a number of 64 bits is what 64 bits hold of it.
 use mathlib.Core.Path.{sym}
 use native.Mathlib.Nat.{mod-eq-of-lt}
 use Rattle.access.proofs.counters.held.Statement.{statement}

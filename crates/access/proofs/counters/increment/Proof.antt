@@ -2,42 +2,45 @@
 use Prim.Native.Nat.{_≤_, _-_, _/_, _^_}
 use mathlib.Core.Path.{_≡_, refl, sym, _∙_}
 use native.Mathlib.Omega.{arith}
-use Rattle.rules.specs.Step.{incremented}
+use lib.ListN.{length, length-set}
+use Rattle.rules.specs.Apply.{incremented}
 use Rattle.rules.proofs.Sweep.{sweep}
 use Rattle.access.proofs.Turns.{half, turn, done-early, done-all}
 use Rattle.access.proofs.counters.increment.Statement.{statement}
 use Rattle.access.proofs.counters.increment.Tie as tie
 
 abbrev Inv-loop : tie.InvT-loop
-Inv-loop v x events next₀ rest₀ i₀ next rest i =
-    (i ≤ 31) × (next ≡ sweep (incremented v events x) i next₀) × (rest ≡ x / 2 ^ i)
+Inv-loop counters₀ events p5 mask rest₀ i₀ counters rest i =
+    (i ≤ length counters₀)
+    × (length counters ≡ length counters₀)
+    × (counters ≡ sweep (incremented p5 events mask) i counters₀)
+    × (rest ≡ mask / 2 ^ i)
 
 abbrev μ-loop : tie.MeasureT-loop
-μ-loop v x events next₀ rest₀ i₀ next rest i = 31 - i
+μ-loop counters₀ events p5 mask rest₀ i₀ counters rest i = length counters₀ - i
 
 loop-holds : tie.Need-loop-holds Inv-loop μ-loop
-loop-holds c = (omega arith, refl, omega arith)
+loop-holds c = (omega arith, refl, refl, omega arith)
+
+same-length : tie.Need-same-length Inv-loop μ-loop
+same-length c = c .before .before .loop .inv .1
 
 returns : tie.Need-returns Inv-loop μ-loop
-returns c = c .before .before .loop .inv .1 ∙ done-early (c .before .before .before .args .v) (c .before .before .before .args .t2) (c .before .before .before .args .x) (c .before .before .before .args .counters) (c .before .before .loop .i) (sym (c .if1 .taken) ∙ c .before .before .loop .inv .2)
+returns c =
+    let at-loop = c .before .before in
+    at-loop .loop .inv .2 ∙ done-early _ _ _ _ (at-loop .loop .i) (sym (c .if1 .taken) ∙ at-loop .loop .inv .3)
 
 mul-incremented : tie.Need-mul-incremented Inv-loop μ-loop
 mul-incremented c = omega arith
 
-array-read-incremented : tie.Need-array-read-incremented Inv-loop μ-loop
-array-read-incremented c = omega arith
+slice-read-incremented : tie.Need-slice-read-incremented Inv-loop μ-loop
+slice-read-incremented c = omega arith
 
-mul-incremented-2 : tie.Need-mul-incremented-2 Inv-loop μ-loop
-mul-incremented-2 c = omega arith
+mul-counters : tie.Need-mul-counters Inv-loop μ-loop
+mul-counters c = omega arith
 
-array-read-incremented-2 : tie.Need-array-read-incremented-2 Inv-loop μ-loop
-array-read-incremented-2 c = omega arith
-
-mul-next : tie.Need-mul-next Inv-loop μ-loop
-mul-next c = omega arith
-
-array-write-next : tie.Need-array-write-next Inv-loop μ-loop
-array-write-next c = omega arith
+slice-write-counters : tie.Need-slice-write-counters Inv-loop μ-loop
+slice-write-counters c = omega arith
 
 add-i : tie.Need-add-i Inv-loop μ-loop
 add-i c = omega arith
@@ -46,10 +49,22 @@ loop-less : tie.Need-loop-less Inv-loop μ-loop
 loop-less c = omega arith
 
 loop-again : tie.Need-loop-again Inv-loop μ-loop
-loop-again c = (omega arith, turn (c .before .before .before .before .args .v) (c .before .before .before .before .args .t2) (c .before .before .before .before .args .x) (c .before .before .before .before .args .counters) (c .before .before .before .loop .i) (c .before .before .before .loop .rest) (c .before .before .before .loop .next) _ (c .before .before .before .loop .inv .1) (c .before .before .before .loop .inv .2) (c .incremented .ensures), half (c .before .before .before .before .args .v) (c .before .before .before .before .args .t2) (c .before .before .before .before .args .x) (c .before .before .before .before .args .counters) (c .before .before .before .loop .i) (c .before .before .before .loop .rest) (c .before .before .before .loop .inv .2))
+loop-again c =
+    let at-event = c .before .before in
+    let at-loop = at-event .before .before .before in (
+      omega arith,
+      simp length-set (at-loop .loop .inv .1),
+      turn _ _ _ _ (at-loop .loop .i) (at-loop .loop .rest) _ (at-loop .loop .counters) _ (at-loop .loop .inv .2) (at-loop .loop .inv .3) (at-event .event .ensures) (c .incremented .ensures),
+      half _ (at-loop .loop .i) (at-loop .loop .rest) (at-loop .loop .inv .3),
+    )
+
+same-length-2 : tie.Need-same-length-2 Inv-loop μ-loop
+same-length-2 c = c .before .loop .inv .1
 
 returns-2 : tie.Need-returns-2 Inv-loop μ-loop
-returns-2 c = c .before .loop .inv .1 ∙ done-all (c .before .before .args .v) (c .before .before .args .t2) (c .before .before .args .x) (c .before .before .args .counters) (c .before .loop .i) (omega (arith, c .loop-test .left, c .before .before .good))
+returns-2 c =
+    let at-loop = c .before in
+    at-loop .loop .inv .2 ∙ done-all _ _ _ _ (at-loop .loop .i) (omega (arith, c .loop-test .left))
 
 pub increment-spec : {M : Type 1} → statement M
 increment-spec =
@@ -58,15 +73,16 @@ increment-spec =
     Inv-loop
     μ-loop
     loop-holds
+    same-length
     returns
-    mul-incremented
-    array-read-incremented
-    mul-incremented-2
-    array-read-incremented-2
     (λ c κs. tt)
-    mul-next
-    array-write-next
+    mul-incremented
+    slice-read-incremented
+    (λ c κs. tt)
+    mul-counters
+    slice-write-counters
     add-i
     loop-less
     loop-again
+    same-length-2
     returns-2)

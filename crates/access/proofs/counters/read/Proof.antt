@@ -1,4 +1,4 @@
--- `access::counters::read` meets its contract: a case for each branch, by the contracts of what it calls.
+-- `access::counters::read` meets its contract: past the last counter there is nothing.
 use mathlib.Core.Path.{sym}
 use lib.ListN.{List·getD-eq-default}
 use borrow.Author.Needs.{needs}

@@ -3,7 +3,7 @@ use Prim.Native.Nat.{_%_}
 use mathlib.Core.Path.{sym, _∙_, ap}
 use native.Mathlib.Omega.{arith}
 use lib.Pow.{pow-pos}
-use Rattle.rules.proofs.Bits.{one-shifted}
+use Rattle.bits.proofs.Single.{one-shifted}
 use Rattle.rules.proofs.Enables.{low-all, low-some}
 use borrow.Author.Needs.{needs}
 use Rattle.external.proofs.enables.low_bits.Statement.{statement}

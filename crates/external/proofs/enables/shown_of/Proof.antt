@@ -4,9 +4,9 @@ use mathlib.Core.Path.{sym}
 use native.Mathlib.Nat.{add-zero}
 use native.Mathlib.Omega.{arith}
 use lib.Dec.{ltb}
-use Rattle.rules.specs.Permitted.{bit}
+use Rattle.bits.specs.Bits.{bit}
 use Rattle.rules.proofs.Enables.{shown-sum}
-use Rattle.rules.proofs.FromBits.{fromBits-lt}
+use Rattle.bits.proofs.FromBits.{fromBits-lt}
 use borrow.Author.Needs.{needs}
 use Rattle.external.proofs.enables.shown_of.Statement.{statement}
 use Rattle.external.proofs.enables.shown_of.Tie as tie

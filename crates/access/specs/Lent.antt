@@ -1,0 +1,20 @@
+-- An outcome where the counters are lent: the counters are changed where they stand, and the rest is handed back.
+use Prim.Native.Nat.{ℕ}
+use mathlib.Core.List.{List}
+use mathlib.Core.Path.{_≡_}
+use Rattle.machine.specs.declared.Outcome.{Outcome}
+use Rattle.machine.specs.declared.Settings.{Settings}
+use Rattle.machine.specs.Machine.{machineOf}
+use Rattle.rules.specs.declared.Decision.{Decision}
+use Rattle.rules.specs.Apply.{apply}
+use Rattle.access.specs.declared.Said.{Said}
+
+-- what is said and what the counters then hold is the outcome; level, settings and event numbers stay with the caller
+pub record Lent (o : Outcome) (said : Said) (after : List ℕ) : Type 0 where
+  pub answer : said .answer ≡ o .answer
+  pub instructions : said .instructions ≡ o .machine .instructions
+  pub counters : after ≡ o .machine .counters
+
+-- a decision applied to the record with these settings, event numbers, counters and instruction counter, whatever its level
+abbrev pub Applied : Decision → Settings → List ℕ → List ℕ → ℕ → Said → List ℕ → Type 0
+Applied d s e c i said after = (l : ℕ) → Lent (apply d (machineOf l s e c i)) said after
