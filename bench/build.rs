@@ -1,10 +1,9 @@
-//! Links libmeasure.a and libmeasure_in_place.a of target/staticlib, which
-//! `rt staticlib` writes.
+//! Links the measured libraries of target/staticlib, which `rt staticlib` writes.
 
 fn main() {
     let folder = concat!(env!("CARGO_MANIFEST_DIR"), "/../target/staticlib");
     println!("cargo:rustc-link-search=native={folder}");
-    for library in ["measure", "measure_in_place"] {
+    for library in ["measure", "measure_lent", "measure_in_place"] {
         println!("cargo:rustc-link-lib=static={library}");
         println!("cargo:rerun-if-changed={folder}/lib{library}.a");
     }

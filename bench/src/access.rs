@@ -67,9 +67,9 @@ pub fn count() {
 
 /// Nanoseconds an access, for each loop: the fastest of several runs, the
 /// loops in turn, so that what else the machine does meets all of them.
-fn nanoseconds(list: &[u64], row: &Row) -> [f64; 3] {
+fn nanoseconds(list: &[u64], row: &Row) -> [f64; 4] {
     let sets = sets(row);
-    let mut best = [f64::MAX; 3];
+    let mut best = [f64::MAX; 4];
     for _ in 0..60 {
         for (run, best) in LOOPS.iter().zip(&mut best) {
             let start = Instant::now();
@@ -82,14 +82,14 @@ fn nanoseconds(list: &[u64], row: &Row) -> [f64; 3] {
     best
 }
 
-/// Times each row and prints it beside what was counted. The three loops must
+/// Times each row and prints it beside what was counted. The four loops must
 /// agree on the sum of the answers.
 pub fn report(totals: &[u64]) -> Result<(), String> {
     if totals.len() != rows().len() * LOOPS.len() * 2 {
         return Err(format!("{} counts are not two for each row and loop", totals.len()));
     }
     let mut counts = totals.chunks(2).map(|two| (two[1] - two[0]) as f64 / LIST as f64);
-    println!("an access, by value, in place and by the reference: instructions; nanoseconds; time by that of the reference");
+    println!("an access, by value, lent, in place and by the reference: instructions; nanoseconds; time by that of the reference");
     for row in rows() {
         let list = list(&row, 4 * LIST);
         let sums = LOOPS.map(|run| run(&sets(&row), &list, row.operand));
@@ -99,9 +99,9 @@ pub fn report(totals: &[u64]) -> Result<(), String> {
         let counted = LOOPS.map(|_| counts.next().unwrap_or(0.0));
         let timed = nanoseconds(&list, &row);
         print!("{:13} EL{} {}", row.name, row.level, if row.p5 == 1 { "p5   " } else { "no p5" });
-        print!(" | {:4.0} {:4.0} {:4.0}", counted[0], counted[1], counted[2]);
-        print!(" | {:5.1} {:5.1} {:5.1}", timed[0], timed[1], timed[2]);
-        println!(" | {:.2} {:.2}", timed[0] / timed[2], timed[1] / timed[2]);
+        print!(" | {:4.0} {:4.0} {:4.0} {:4.0}", counted[0], counted[1], counted[2], counted[3]);
+        print!(" | {:5.1} {:5.1} {:5.1} {:5.1}", timed[0], timed[1], timed[2], timed[3]);
+        println!(" | {:.2} {:.2} {:.2}", timed[0] / timed[3], timed[1] / timed[3], timed[2] / timed[3]);
     }
     Ok(())
 }

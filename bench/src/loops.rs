@@ -1,5 +1,6 @@
-//! The three loops that are measured: the proved by-value step, the proved
-//! step with the record behind a reference, and the reference. Each makes a
+//! The four loops that are measured: the proved by-value step, the proved step
+//! with the counters of a local record lent, the proved step with the record
+//! behind a reference, and the reference. Each makes a
 //! record by sets (field in bits 39:32, value in bits 31:0), runs a list of
 //! accesses on it (word in bits 31:0, level in bits 33:32) and sums up the
 //! answers. Sets and list come at run time, so that no compiler knows them.
@@ -9,15 +10,20 @@ use reference::model::{Answer, Machine};
 /// Sets, accesses, and every access's operand.
 pub type Loop = fn(&[u64], &[u64], u64) -> u64;
 
-pub const LOOPS: [Loop; 3] = [by_value, in_place, reference];
+pub const LOOPS: [Loop; 4] = [by_value, lent, in_place, reference];
 
 extern "C" {
     fn measure_by_value(sets: *const u64, count: usize, list: *const u64, length: usize, operand: u64) -> u64;
+    fn measure_lent(sets: *const u64, count: usize, list: *const u64, length: usize, operand: u64) -> u64;
     fn measure_in_place(sets: *const u64, count: usize, list: *const u64, length: usize, operand: u64) -> u64;
 }
 
 fn by_value(sets: &[u64], list: &[u64], operand: u64) -> u64 {
     unsafe { measure_by_value(sets.as_ptr(), sets.len(), list.as_ptr(), list.len(), operand) }
+}
+
+fn lent(sets: &[u64], list: &[u64], operand: u64) -> u64 {
+    unsafe { measure_lent(sets.as_ptr(), sets.len(), list.as_ptr(), list.len(), operand) }
 }
 
 fn in_place(sets: &[u64], list: &[u64], operand: u64) -> u64 {

@@ -84,31 +84,26 @@ pub fn lent(
 }
 
 // The same access to a record by value.
-pub fn step(w: u32, x: u64, r: Machine) -> Outcome
+pub fn step(w: u32, x: u64, mut r: Machine) -> Outcome
     ensures { λ o. ⌜ o ≡ step w x r ⌝ }
 {
     let events = r.events;
     let settings = r.settings;
-    let mut counters = r.counters;
+    let level = r.level;
+    let instructions = r.instructions;
     let said = lent(
-        &mut counters,
+        &mut r.counters,
         &events,
         settings,
-        r.level,
-        r.instructions,
+        level,
+        instructions,
         w,
         x,
     );
     let answer = said.answer;
-    let next = Machine {
-        settings: settings,
-        events: events,
-        level: r.level,
-        counters: counters,
-        instructions: said.instructions,
-    };
+    r.instructions = said.instructions;
     Outcome {
         answer: answer,
-        machine: next,
+        machine: r,
     }
 }

@@ -1,2 +1,5 @@
 -- The laws of the crate `command`.
+pub mod Choice
+pub mod Front
 pub mod Operands
+pub mod Sizes

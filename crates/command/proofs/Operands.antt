@@ -1,16 +1,12 @@
 -- Laws of little-endian operands: one byte, two operands that follow each other, and an operand behind a command's byte.
-use Prim.Native.Nat.{ℕ, suc, _+_, _-_, _*_, _^_, _<_, _≤_}
-use mathlib.Core.Bool.{cond}
+use Prim.Native.Nat.{ℕ, suc, _+_, _*_, _^_, _<_, _≤_}
 use mathlib.Core.List.{List, [], _∷_, _++_}
-use mathlib.Core.Path.{_≡_, refl, sym, _∙_, ap}
+use mathlib.Core.Path.{_≡_, sym, _∙_, ap}
 use native.Mathlib.Nat.{pow-succ', mul-assoc}
 use native.Mathlib.Omega.{arith}
-use lib.Dec.{ltb}
 use lib.ListN.{length, getD, take, drop, length-drop}
 use lib.Seq.{take-add, drop-drop, drop-cons, length-take-le}
-use Rattle.answer.specs.declared.Refusal.the-variants.{UnknownCommand, Truncated}
-use Rattle.command.specs.declared.Command.{Command}
-use Rattle.command.specs.Command.{little, operand, operandBytes, isUnknown, commandWith, commandOf}
+use Rattle.command.specs.Command.{little, operand}
 
 little-append : (a b : List ℕ) → little (a ++ b) ≡ little a + 256 ^ length a * little b
 little-append [] b = omega arith
@@ -40,19 +36,3 @@ operand-behind s at n = ap (λ l. little (take n l)) (drop-drop at 1 s)
 -- the byte behind the command's byte
 pub byte-behind : (s : List ℕ) → 1 < length s → getD s 1 0 ≡ operand (drop 1 s) 0 1
 byte-behind s h = sym (operand-behind s 0 1 ∙ operand-one s 1 h)
-
--- no bytes
-pub commandOf-none : (s : List ℕ) → length s ≡ 0 → commandOf s ≡ Command.Bad Truncated
-unfolding commandOf
-commandOf-none [] h = refl
-commandOf-none (c ∷ s) h = let z : ⊥ = omega arith in absurd z
-
--- the command of bytes that are not empty
-pub commandOf-at :
-    (s : List ℕ) → 0 < length s
-    → commandOf s
-    ≡ cond (isUnknown (getD s 0 0)) (Command.Bad UnknownCommand)
-    (cond (ltb (length s - 1) (operandBytes (getD s 0 0))) (Command.Bad Truncated) (commandWith (getD s 0 0) (drop 1 s)))
-unfolding commandOf
-commandOf-at [] h = let z : ⊥ = omega arith in absurd z
-commandOf-at (c ∷ s) h = let e : suc (length s) - 1 ≡ length s = omega arith in rw e

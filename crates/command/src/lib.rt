@@ -1,4 +1,6 @@
 // A session's bytes as commands: the command that they begin with, with its little-endian operands, or why there is none.
+pub mod reading; // reading.rt: how far reading goes on
+
 ghost use mathlib.Core.Path.{_≡_};
 ghost use Prim.Native.Nat.{_+_, _≤_, _<_, _^_};
 ghost use lib.ListN.{length, drop};
@@ -48,7 +50,7 @@ fn eight(s: &[u8], at: usize) -> u64
 }
 
 // How many bytes of operands follow a command byte.
-pub fn operand_bytes(c: u8) -> usize
+fn operand_bytes(c: u8) -> usize
     ensures { λ r. ⌜ r ≡ operandBytes c ⌝ }
 {
     match c {

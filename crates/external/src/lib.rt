@@ -3,7 +3,7 @@ pub mod enables; // enables.rt: the enable bits that PMCNTENSET_EL0 shows and se
 mod reach; // reach.rt: how far an access at an offset gets
 
 ghost use mathlib.Core.Path.{_≡_};
-ghost use Rattle.machine.specs.Machine.{withCnten};
+ghost use Rattle.fields.specs.Store.{store};
 ghost use Rattle.rules.specs.External.{readOf, writeOf, tickOf, obeyed, request, externalRead, externalWrite, tick};
 use answer::Answer;
 use machine::Machine;
@@ -27,7 +27,7 @@ fn read_of(t: Reach, s: Settings) -> Answer
 
 // The record with these counter enables.
 fn with_cnten(e: u64, r: Machine) -> Machine
-    ensures { λ m. ⌜ m ≡ withCnten e r ⌝ }
+    ensures { λ m. ⌜ m ≡ store 0x34 e r ⌝ }
 {
     let mut settings = r.settings;
     settings.cnten = e;

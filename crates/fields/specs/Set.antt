@@ -1,6 +1,7 @@
 -- The set and level commands: their tests, lowest number first, and the record afterwards.
 use Prim.Native.Nat.{ℕ}
 use mathlib.Core.Bool.{cond, not}
+use mathlib.Core.List.{List, [], _∷_}
 use lib.Dec.{ltb}
 use Rattle.answer.specs.declared.Refusal.the-variants.{UnknownField, ValueTooLarge, LevelTooLarge}
 use Rattle.machine.specs.declared.Machine.{Machine}
@@ -16,6 +17,11 @@ set f v m =
     cond (not (isField f)) (refused UnknownField m)
     (cond (ltb (largest f) v) (refused ValueTooLarge m)
     (done (store f v m)))
+
+-- the record after these set commands, each a field and a value; one that is refused leaves it as it was
+unfoldable pub setAll : List (ℕ × ℕ) → Machine → Machine
+setAll [] m = m
+setAll (s ∷ rest) m = setAll rest (set (s .0) (s .1) m .machine)
 
 -- the level command: refusal 5, else the level is l
 unfoldable pub setLevel : ℕ → Machine → Outcome

@@ -17,7 +17,7 @@ use machine::Pmuserenr;
 use machine::Scr;
 use machine::Settings;
 
-// a where the test holds, else b.
+// a where the test holds, else b. (`select` in the crate `traps` says the same of bools: one function cannot serve both types.)
 pub fn pick(test: bool, a: u64, b: u64) -> u64
     ensures { λ r. ⌜ r ≡ cond test a b ⌝ }
 {

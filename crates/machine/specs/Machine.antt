@@ -7,8 +7,9 @@ use Rattle.machine.specs.declared.Features.{Features}
 use Rattle.machine.specs.declared.Settings.{Settings}
 use Rattle.machine.specs.declared.Machine.{Machine}
 
-abbrev pub noFeatures : Features
-noFeatures =
+-- what the processor implements, in the fresh record
+abbrev pub freshFeatures : Features
+freshFeatures =
     record {
       pmuv3 = false;
       p5 = false;
@@ -25,10 +26,11 @@ noFeatures =
       n = 0;
     }
 
-abbrev pub noSettings : Settings
-noSettings =
+-- the settings of the fresh record
+abbrev pub freshSettings : Settings
+freshSettings =
     record {
-      features = noFeatures;
+      features = freshFeatures;
       execution = record { el2enabled = false; halted = false; sdd = false };
       pmuserenr = record { en = false; sw = false; er = false; uen = false; ir = false };
       hcr = record { e2h = false; tge = false };
@@ -47,7 +49,7 @@ abbrev pub fresh : Machine
 fresh =
     record {
       level = 0;
-      settings = noSettings;
+      settings = freshSettings;
       events = replicate 31 0;
       counters = replicate 31 0;
       instructions = 0;
@@ -67,37 +69,6 @@ withLevel l m =
       counters = m .counters;
       instructions = m .instructions;
     }
-
--- the record with these settings
-abbrev pub withSettings : Settings → Machine → Machine
-withSettings s m =
-    record {
-      level = m .level;
-      settings = s;
-      events = m .events;
-      counters = m .counters;
-      instructions = m .instructions;
-    }
-
--- the record with these counter enables
-unfoldable pub withCnten : ℕ → Machine → Machine
-withCnten e m =
-    withSettings
-    (record {
-      features = m .settings .features;
-      execution = m .settings .execution;
-      pmuserenr = m .settings .pmuserenr;
-      hcr = m .settings .hcr;
-      mdcr2 = m .settings .mdcr2;
-      mdcr3 = m .settings .mdcr3;
-      scr = m .settings .scr;
-      hdfgrtr = m .settings .hdfgrtr;
-      hdfgwtr = m .settings .hdfgwtr;
-      pmuacr = m .settings .pmuacr;
-      cnten = e;
-      external = m .settings .external;
-    })
-    m
 
 -- the record with these event counters
 abbrev pub withCounters : List ℕ → Machine → Machine

@@ -1,5 +1,5 @@
-// The machine record of document 01: one struct for each register or group of fields. The crate `fields` has the number and
-// the largest value of each field.
+// The machine record of document 01: one struct for each register or group of fields, and below it what it is in the fresh
+// record. The crate `fields` has the number and the largest value of each field.
 pub mod fresh; // fresh.rt: the fresh record
 
 use answer::Answer;
@@ -22,12 +22,34 @@ pub struct Features {
     pub n: u64,
 }
 
+pub const FRESH_FEATURES: Features = Features {
+    pmuv3: false,
+    p5: false,
+    p9: false,
+    icntr: false,
+    fgt: false,
+    fgt2: false,
+    hpmn0: false,
+    ext32: false,
+    ext64: false,
+    el2: false,
+    el3: false,
+    el3prio: false,
+    n: 0,
+};
+
 // EL2Enabled(), Halted() and EDSCR.SDD.
 pub struct Execution {
     pub el2enabled: bool,
     pub halted: bool,
     pub sdd: bool,
 }
+
+pub const FRESH_EXECUTION: Execution = Execution {
+    el2enabled: false,
+    halted: false,
+    sdd: false,
+};
 
 // PMUSERENR_EL0.
 pub struct Pmuserenr {
@@ -38,11 +60,24 @@ pub struct Pmuserenr {
     pub ir: bool,
 }
 
+pub const FRESH_PMUSERENR: Pmuserenr = Pmuserenr {
+    en: false,
+    sw: false,
+    er: false,
+    uen: false,
+    ir: false,
+};
+
 // HCR_EL2.
 pub struct Hcr {
     pub e2h: bool,
     pub tge: bool,
 }
+
+pub const FRESH_HCR: Hcr = Hcr {
+    e2h: false,
+    tge: false,
+};
 
 // MDCR_EL2.
 pub struct Mdcr2 {
@@ -50,11 +85,21 @@ pub struct Mdcr2 {
     pub hpmn: u64,
 }
 
+pub const FRESH_MDCR2: Mdcr2 = Mdcr2 {
+    tpm: false,
+    hpmn: 0,
+};
+
 // MDCR_EL3.
 pub struct Mdcr3 {
     pub tpm: bool,
     pub enpm2: bool,
 }
+
+pub const FRESH_MDCR3: Mdcr3 = Mdcr3 {
+    tpm: false,
+    enpm2: false,
+};
 
 // SCR_EL3.
 pub struct Scr {
@@ -62,11 +107,21 @@ pub struct Scr {
     pub fgten2: bool,
 }
 
+pub const FRESH_SCR: Scr = Scr {
+    fgten: false,
+    fgten2: false,
+};
+
 // The fine-grained trap bits of reads: HDFGRTR_EL2.PMEVCNTRn_EL0 and HDFGRTR2_EL2.nPMICNTR_EL0.
 pub struct Hdfgrtr {
     pub pmevcntrn: bool,
     pub npmicntr: bool,
 }
+
+pub const FRESH_HDFGRTR: Hdfgrtr = Hdfgrtr {
+    pmevcntrn: false,
+    npmicntr: false,
+};
 
 // The fine-grained trap bits of writes: HDFGWTR_EL2.PMEVCNTRn_EL0 and .PMSWINC_EL0, and HDFGWTR2_EL2.nPMICNTR_EL0.
 pub struct Hdfgwtr {
@@ -75,11 +130,19 @@ pub struct Hdfgwtr {
     pub npmicntr: bool,
 }
 
+pub const FRESH_HDFGWTR: Hdfgwtr = Hdfgwtr {
+    pmevcntrn: false,
+    pmswinc: false,
+    npmicntr: false,
+};
+
 // PMUACR_EL1: the bits P<m> as one number, and F0.
 pub struct Pmuacr {
     pub p: u64,
     pub f0: bool,
 }
+
+pub const FRESH_PMUACR: Pmuacr = Pmuacr { p: 0, f0: false };
 
 // What decides about external accesses: IsCorePowered(), DoubleLockStatus(), OSLockStatus(),
 // AllowExternalPMUAccess() and SoftwareLockStatus().
@@ -91,8 +154,17 @@ pub struct External {
     pub softwarelock: bool,
 }
 
-// All that a decision about an access may look at, besides the level and refusal 15's test. `cnten` holds the counter enables of PMCNTENSET_EL0.
-// The groups of bools stand together, and the level behind the event numbers, so that little padding is copied with a record.
+pub const FRESH_EXTERNAL: External = External {
+    powered: false,
+    doublelock: false,
+    oslock: false,
+    allowed: false,
+    softwarelock: false,
+};
+
+// All that a decision about an access may look at, besides the level and refusal 15's test. `cnten` holds the counter enables
+// of PMCNTENSET_EL0. The groups of bools stand together, and the level behind the event numbers, so that little padding is
+// copied with a record.
 pub struct Settings {
     pub features: Features,
     pub execution: Execution,

@@ -1,54 +1,61 @@
--- Laws of `started` and `total` along a list: one entry taken off the front, and none left.
-use Prim.Native.Nat.{ℕ, _+_, _/_, _%_, _^_, _<_, _≤_}
-use mathlib.Core.List.{List}
-use mathlib.Core.Path.{_≡_, sym, _∙_, ap}
+-- Laws of the measured loops along a list: one entry taken off the front, and none left.
+use Prim.Native.Nat.{ℕ, _+_, _%_, _^_, _<_, _≤_}
+use mathlib.Core.List.{List, map}
+use mathlib.Core.Path.{_≡_, sym}
+use native.Mathlib.Nat.{zero-add}
 use native.Mathlib.Numerals.{add-one}
+use native.Mathlib.Omega.{arith}
 use lib.ListN.{length, drop, getD, drop-of-length-le}
 use lib.Seq.{drop-cons}
 use Rattle.machine.specs.declared.Machine.{Machine}
 use Rattle.machine.specs.declared.Outcome.{Outcome}
 use Rattle.machine.specs.Machine.{withLevel}
-use Rattle.rules.specs.Step.{step}
-use Rattle.fields.specs.Set.{set}
-use Rattle.measure.specs.Measure.{started, worth, total}
+use Rattle.fields.specs.Set.{set, setAll}
+use Rattle.rules.specs.Step.{step, access, run}
+use Rattle.measure.specs.Measure.{setOf, accessOf, worth, sumOf, total}
 
-module _ (l : List ℕ) (i : ℕ) (r : Machine) where
-  from-set :
-      i < length l
-      → started (drop i l) r ≡ started (drop (i + 1) l) (set (getD l i 0 / 2 ^ 32 % 256) (getD l i 0 % 2 ^ 32) r .machine)
-  unfolding started
-  from-set h = rw (add-one, drop-cons l i 0)
+module _ (l : List ℕ) (r : Machine) where
+  -- the set commands from entry i on, where the code got o for entry i
+  pub sets-next :
+      {i : ℕ} {o : Outcome} → i < length l → o ≡ set (setOf (getD l i 0) .0) (setOf (getD l i 0) .1) r
+      → setAll (map setOf (drop (i + 1) l)) (o .machine) ≡ setAll (map setOf (drop i l)) r
+  unfolding setAll
+  sets-next {i} h e = rw e (sym (rw (add-one i, drop-cons l i 0)))
 
-  pub started-next :
-      (o : Outcome) → i < length l → o ≡ set (getD l i 0 / 2 ^ 32 % 256) (getD l i 0 % 2 ^ 32) r
-      → started (drop (i + 1) l) (o .machine) ≡ started (drop i l) r
-  started-next o h e = ap (λ (q : Outcome). started (drop (i + 1) l) (q .machine)) e ∙ sym (from-set h)
+  pub sets-done : {i : ℕ} → length l ≤ i → setAll (map setOf (drop i l)) r ≡ r
+  unfolding setAll
+  sets-done h = rw (drop-of-length-le l h)
 
-  pub started-done : length l ≤ i → started (drop i l) r ≡ r
-  unfolding started
-  started-done h = rw (drop-of-length-le l h)
+-- the sum of what the accesses from entry i on answer
+abbrev pub remaining : List ℕ → ℕ → ℕ → Machine → ℕ
+remaining l x i r = sumOf (run (map (accessOf x) (drop i l)) r .answers)
 
-module _ (l : List ℕ) (x i s : ℕ) (r : Machine) where
-  -- what the access of entry i answers and leaves
-  abbrev entry : Outcome
-  entry = step (getD l i 0 % 2 ^ 32) x (withLevel (getD l i 0 / 2 ^ 32 % 4) r)
+-- s, and what they add to it
+abbrev pub summed : List ℕ → ℕ → ℕ → ℕ → Machine → ℕ
+summed l x i s r = (s + remaining l x i r) % 2 ^ 64
 
-  -- the list from entry i on
-  from-entry :
-      i < length l
-      → total (drop i l) x s r ≡ total (drop (i + 1) l) x ((s + worth (entry .answer)) % 2 ^ 64) (entry .machine)
+module _ (l : List ℕ) (x : ℕ) (r : Machine) where
+  pub summed-all : summed l x 0 0 r ≡ total l x r
   unfolding total
-  from-entry h = rw (add-one, drop-cons l i 0)
+  summed-all = rw zero-add
 
-  -- the same of what the code got for entry i, the outcome and the sum
-  pub total-next :
-      (o : Outcome) (t : ℕ) → i < length l → o ≡ entry → t ≡ (s + worth (o .answer)) % 2 ^ 64
-      → total (drop (i + 1) l) x t (o .machine) ≡ total (drop i l) x s r
-  total-next o t h e p =
-      ap (λ (n : ℕ). total (drop (i + 1) l) x n (o .machine)) p
-      ∙ ap (λ (q : Outcome). total (drop (i + 1) l) x ((s + worth (q .answer)) % 2 ^ 64) (q .machine)) e
-      ∙ sym (from-entry h)
+  -- what the access of entry i answers and leaves: `access`, written out
+  abbrev entered : ℕ → Outcome
+  entered i = let a = accessOf x (getD l i 0) in step (a .word) (a .operand) (withLevel (a .level) r)
 
-  pub total-done : length l ≤ i → total (drop i l) x s r ≡ s
-  unfolding total
-  total-done h = rw (drop-of-length-le l h)
+  -- entry i, where the code got o for it
+  remaining-next :
+      {i : ℕ} {o : Outcome} → i < length l → o ≡ entered i
+      → remaining l x i r ≡ worth (o .answer) + remaining l x (i + 1) (o .machine)
+  unfolding run access
+  remaining-next {i} h e = rw (e, add-one i, drop-cons l i 0)
+
+  -- the same of the sum, which is then t
+  pub summed-next :
+      {i t : ℕ} {o : Outcome} (s : ℕ) → i < length l → o ≡ entered i → t ≡ (s + worth (o .answer)) % 2 ^ 64
+      → summed l x (i + 1) t (o .machine) ≡ summed l x i s r
+  summed-next s h e p = omega (arith, remaining-next h e)
+
+  pub summed-done : {i s : ℕ} → length l ≤ i → s < 2 ^ 64 → summed l x i s r ≡ s
+  unfolding run
+  summed-done h f = rw (drop-of-length-le l h) (omega arith)

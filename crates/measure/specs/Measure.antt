@@ -1,16 +1,24 @@
--- The measured loops: a list of accesses from a record that a list of sets makes, and a sum of the answers, so that none can be left out.
+-- The measured loops: a list of accesses from a record that a list of sets makes, and the sum of the answers, so that none can be
+-- left out.
 use Prim.Native.Nat.{ℕ, _+_, _/_, _%_, _^_}
-use mathlib.Core.List.{List, [], _∷_}
+use mathlib.Core.List.{List, [], _∷_, map}
 use Rattle.answer.specs.declared.Answer.{Answer}
 use Rattle.machine.specs.declared.Machine.{Machine}
-use Rattle.machine.specs.Machine.{withLevel}
-use Rattle.fields.specs.Set.{set}
-use Rattle.rules.specs.Step.{step}
+use Rattle.machine.specs.Machine.{fresh}
+use Rattle.fields.specs.Set.{setAll}
+use Rattle.rules.specs.Step.{Access, run}
 
--- the record after set commands, each an entry with the field in bits 39:32 and the value in bits 31:0
-unfoldable pub started : List ℕ → Machine → Machine
-started [] r = r
-started (e ∷ rest) r = started rest (set (e / 2 ^ 32 % 256) (e % 2 ^ 32) r .machine)
+-- an entry as a set command: the field in bits 39:32, the value in bits 31:0
+abbrev pub setOf : ℕ → ℕ × ℕ
+setOf e = (e / 2 ^ 32 % 256, e % 2 ^ 32)
+
+-- the record that a list starts from: the fresh one after set commands
+abbrev pub started : List ℕ → Machine
+started sets = setAll (map setOf sets) fresh
+
+-- an entry as an access with operand x: the level in bits 33:32, the word in bits 31:0
+abbrev pub accessOf : ℕ → ℕ → Access
+accessOf x c = record { level = c / 2 ^ 32 % 4; word = c % 2 ^ 32; operand = x }
 
 -- what an answer adds to the sum
 abbrev pub worth : Answer → ℕ
@@ -24,9 +32,11 @@ worth (Answer.Value v) = v
 worth (Answer.Mrs v t) = v
 worth (Answer.Refused n) = 0
 
--- the sum of the answers of a list, modulo 2^64. An entry has the word in bits 31:0 and the level in bits 33:32; x is every access's operand
-unfoldable pub total : List ℕ → ℕ → ℕ → Machine → ℕ
-total [] x s r = s
-total (c ∷ rest) x s r =
-    let o = step (c % 2 ^ 32) x (withLevel (c / 2 ^ 32 % 4) r) in
-    total rest x ((s + worth (o .answer)) % 2 ^ 64) (o .machine)
+-- the sum of answers
+abbrev pub sumOf : List Answer → ℕ
+sumOf [] = 0
+sumOf (a ∷ rest) = worth a + sumOf rest
+
+-- the sum of what a list of accesses answers, all with operand x, modulo 2^64
+unfoldable pub total : List ℕ → ℕ → Machine → ℕ
+total list x r = sumOf (run (map (accessOf x) list) r .answers) % 2 ^ 64

@@ -1,14 +1,13 @@
 // A list of accesses run in a loop by the by-value step, so that bench/ can count and time it. The settings come from the caller
 // too, so that the compiler cannot know them. The step has one caller in the library, as in `transcript`.
 ghost use mathlib.Core.Path.{_≡_};
-ghost use Rattle.machine.specs.Machine.{fresh};
 ghost use Rattle.measure.specs.Measure.{started, worth, total};
 use answer::Answer;
 use machine::Machine;
 
 // The record that a list starts from: the fresh one after set commands, each with the field in bits 39:32 and the value below.
 pub fn start(sets: &[u64]) -> Machine
-    ensures { λ m. ⌜ m ≡ started (now (sets .entry)) fresh ⌝ }
+    ensures { λ m. ⌜ m ≡ started (now (sets .entry)) ⌝ }
 {
     let mut m = machine::fresh::fresh();
     let mut i = 0;
@@ -42,7 +41,7 @@ pub fn worth(a: Answer) -> u64
 // The sum of a list's answers, by the by-value step.
 #[no_mangle]
 pub extern "C" fn measure_by_value(sets: &[u64], list: &[u64], x: u64) -> u64
-    ensures { λ s. ⌜ s ≡ total (now (list .entry)) x 0 (started (now (sets .entry)) fresh) ⌝ }
+    ensures { λ s. ⌜ s ≡ total (now (list .entry)) x (started (now (sets .entry))) ⌝ }
 {
     let mut m = start(sets);
     let mut sum: u64 = 0;

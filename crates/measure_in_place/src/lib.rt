@@ -1,13 +1,12 @@
 // A list of accesses run in a loop by the step with the record behind a reference, so that bench/ can count and time it: the
 // loop of `measure`, in a library of its own, so that each step has one caller.
 ghost use mathlib.Core.Path.{_≡_};
-ghost use Rattle.machine.specs.Machine.{fresh};
 ghost use Rattle.measure.specs.Measure.{started, total};
 
 // The sum of a list's answers.
 #[no_mangle]
 pub extern "C" fn measure_in_place(sets: &[u64], list: &[u64], x: u64) -> u64
-    ensures { λ s. ⌜ s ≡ total (now (list .entry)) x 0 (started (now (sets .entry)) fresh) ⌝ }
+    ensures { λ s. ⌜ s ≡ total (now (list .entry)) x (started (now (sets .entry))) ⌝ }
 {
     let mut m = measure::start(sets);
     let mut sum: u64 = 0;

@@ -1,11 +1,10 @@
 -- The worked examples hold: for each, the definitions give the answers and the record that it says. Computed.
-use mathlib.Core.Bool.{true}
+use mathlib.Core.Bool.{true, _&&_}
 use mathlib.Core.List.{List, map, _++_}
 use mathlib.Core.Path.{_≡_, refl}
 use Rattle.bits.specs.Bits.{fromBits}
 use Rattle.fields.specs.Largest.{largest}
-use Rattle.fields.specs.Set.{set}
-use Rattle.machine.specs.Machine.{withCnten}
+use Rattle.fields.specs.Set.{set, setAll}
 use Rattle.state.specs.State.{viewOf, tooLarge, refusals, verdictOf}
 use Rattle.fields.specs.Store.{store, storeSettings, storeFeatures, storeMdcr2, storePmuacr}
 use Rattle.rules.specs.Word.{named, register, syndrome, decode, written}
@@ -24,7 +23,7 @@ use Rattle.rules.specs.Permitted.{placeAccess, addMask}
 use Rattle.rules.specs.Apply.{incremented, apply}
 use Rattle.rules.specs.Step.{decideRegister, decide, step}
 use Rattle.rules.specs.External.{shownOf, enablesWritten, reach, tickOf, obeyed, externalRead, externalWrite, tick}
-use Rattle.rules.specs.Example.{Example, perform, performAll, setAll, valid, allValid, usual, start, actual, expected}
+use Rattle.rules.specs.Example.{Example, perform, performAll, valid, allValid, usualSettings, usual, start, actual, expected}
 use Rattle.rules.specs.Worked.{worked, misreadings}
 use Rattle.rules.specs.Further.{further}
 
@@ -35,7 +34,7 @@ Hold l = map actual l ≡ map expected l
 -- each of the three lists, computed
 hold : Hold worked × Hold misreadings × Hold further
 unfolding
-    largest set withCnten viewOf tooLarge refusals verdictOf store storeSettings storeFeatures storeMdcr2 storePmuacr
+    largest set viewOf tooLarge refusals verdictOf store storeSettings storeFeatures storeMdcr2 storePmuacr
     named register syndrome decode written disabledTrap stopAtEl3 counterRules counterOrder icntrRules icntrOrder
     pmevcntrStop pmswincStop pmicntrStop placeAccess addMask decideRegister decide incremented apply step fromBits
     shownOf enablesWritten reach tickOf obeyed externalRead externalWrite tick
@@ -54,7 +53,7 @@ misreadings-hold = hold .1
 pub further-hold : Hold further
 further-hold = hold .2
 
--- every set command of the examples is one that is not refused
-pub settings-valid : allValid (worked ++ misreadings ++ further) ≡ true
+-- every set command of the examples, and of what they start from, is one that is not refused
+pub settings-valid : valid usualSettings && allValid (worked ++ misreadings ++ further) ≡ true
 unfolding largest valid allValid worked misreadings further
 settings-valid = refl

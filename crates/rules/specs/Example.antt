@@ -9,7 +9,7 @@ use Rattle.machine.specs.declared.Machine.{Machine}
 use Rattle.machine.specs.declared.Outcome.{Outcome}
 use Rattle.machine.specs.Machine.{fresh, withLevel}
 use Rattle.fields.specs.Largest.{largest, isField}
-use Rattle.fields.specs.Set.{set}
+unfoldable pub use Rattle.fields.specs.Set.{setAll}
 use Rattle.rules.specs.Step.{step, Run}
 use Rattle.rules.specs.External.{externalRead, externalWrite, tick}
 
@@ -28,12 +28,14 @@ pub record Example : Type 0 where
   pub answers : List Answer
   pub after : List (ℕ × ℕ)
 
+-- what one thing done answers, and the record after it
 unfoldable pub perform : Action → Machine → Outcome
 perform (access w x) r = step w x r
 perform (read o) r = externalRead o r
 perform (write o x) r = externalWrite o x r
 perform (ticks p) r = tick p r
 
+-- what they answer, in order, and the record after them
 unfoldable pub performAll : List Action → Machine → Run
 performAll [] r = record { answers = []; machine = r }
 performAll (m ∷ rest) r =
@@ -41,26 +43,21 @@ performAll (m ∷ rest) r =
     let then = performAll rest (o .machine) in
     record { answers = o .answer ∷ then .answers; machine = then .machine }
 
--- the record after these set commands
-unfoldable pub setAll : List (ℕ × ℕ) → Machine → Machine
-setAll [] r = r
-setAll (s ∷ rest) r = setAll rest ((set (s .0) (s .1) r) .machine)
-
--- none of them is refused
+-- none of these set commands is refused
 unfoldable pub valid : List (ℕ × ℕ) → Bool
 valid [] = true
 valid (s ∷ rest) = isField (s .0) && not (ltb (largest (s .0)) (s .1)) && valid rest
 
+-- none of the examples' set commands is refused
 unfoldable pub allValid : List Example → Bool
 allValid [] = true
 allValid (e ∷ rest) = valid (e .given ++ e .after) && allValid rest
 
 -- "Unless said: PMUv3, p5, p9, FGT, EXT64, EL2 implemented and enabled, powered, external access allowed, N 6, HPMN 4, EN 1,
 -- other bits 0."
-unfoldable pub usual : Machine
-usual =
-    setAll
-    ((0x00, 1)
+abbrev pub usualSettings : List (ℕ × ℕ)
+usualSettings =
+    (0x00, 1)
     ∷ (0x01, 1)
     ∷ (0x02, 1)
     ∷ (0x04, 1)
@@ -72,16 +69,21 @@ usual =
     ∷ (0x0C, 6)
     ∷ (0x27, 4)
     ∷ (0x20, 1)
-    ∷ [])
-    fresh
+    ∷ []
 
+-- the record that an example starts from, before its own settings
+unfoldable pub usual : Machine
+usual = setAll usualSettings fresh
+
+-- the record that an example's actions are done to
 unfoldable pub start : Example → Machine
 start e = withLevel (e .level) (setAll (e .given) usual)
 
--- what the definitions give, and what the example says: every answer, and the whole record afterwards
+-- what the definitions give: every answer, and the whole record afterwards
 unfoldable pub actual : Example → Run
 actual e = performAll (e .actions) (start e)
 
+-- what the example says
 unfoldable pub expected : Example → Run
 expected e = record { answers = e .answers; machine = setAll (e .after) (start e) }
 

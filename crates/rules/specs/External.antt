@@ -11,8 +11,9 @@ use Rattle.machine.specs.declared.Settings.{Settings}
 use Rattle.state.specs.declared.Verdict.{Verdict}
 use Rattle.state.specs.declared.Verdict.the-variants.{Consistent, Refused}
 use Rattle.machine.specs.First.{first}
-use Rattle.machine.specs.Machine.{withCnten, withInstructions}
+use Rattle.machine.specs.Machine.{withInstructions}
 use Rattle.machine.specs.Outcome.{says, refused, done}
+use Rattle.fields.specs.Store.{store}
 use Rattle.state.specs.State.{viewOf, verdictOf}
 use Rattle.rules.specs.declared.external.Request.{Request}
 use Rattle.rules.specs.declared.external.Request.the-variants.{Read, Write, Tick}
@@ -71,12 +72,12 @@ readOf Ignored s = Answer.Value 0
 readOf Error s = Answer.Error
 readOf Pmcntenset s = Answer.Value (enablesRead s)
 
--- what a write of x answers that gets so far, and the record after it
+-- what a write of x answers that gets so far, and the record after it; the counter enables are field 34
 abbrev pub writeOf : Reach → ℕ → Machine → Outcome
 writeOf Other x r = says Answer.Other r
 writeOf Ignored x r = done r
 writeOf Error x r = says Answer.Error r
-writeOf Pmcntenset x r = done (withCnten (enablesWritten (r .settings) x) r)
+writeOf Pmcntenset x r = done (store 0x34 (enablesWritten (r .settings) x) r)
 
 -- "A tick is one executed instruction: with ICNTR, enable bit 32 set and counting not prohibited, PMICNTR adds 1, wrapping at
 -- 2^64."

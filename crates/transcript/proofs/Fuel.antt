@@ -8,9 +8,9 @@ use native.Mathlib.Omega.{arith}
 use lib.ListN.{length, drop, length-drop}
 use Rattle.answer.specs.declared.Answer.{Answer}
 use Rattle.command.specs.Command.{commandOf, sizeAt, isLast}
+use Rattle.command.proofs.Sizes.{passes}
 use Rattle.machine.specs.declared.Machine.{Machine}
 use Rattle.transcript.specs.Session.{execute, answersFrom}
-use Rattle.transcript.proofs.Sizes.{passes}
 
 one-more : (k : ℕ) (s : List ℕ) (r : Machine) → length s < k → answersFrom k s r ≡ answersFrom (suc k) s r
 unfolding answersFrom

@@ -9,6 +9,7 @@ use lib.ListN.{length, take, drop, length-drop, length-append}
 use lib.Seq.{sets, take-all, drop-drop, length-sets}
 use Rattle.command.specs.declared.Command.{Command}
 use Rattle.command.specs.Command.{commandOf, sizeAt, isLast}
+use Rattle.command.proofs.Sizes.{passes}
 use Rattle.line.specs.Line.{lineOf}
 use Rattle.machine.specs.declared.Machine.{Machine}
 use Rattle.machine.specs.declared.Outcome.{Outcome}
@@ -16,7 +17,6 @@ use Rattle.machine.specs.Machine.{fresh}
 use Rattle.text.specs.Written.{Written}
 use Rattle.text.proofs.Sets.{sets-rest}
 use Rattle.transcript.specs.Session.{execute, answersFrom, linesFrom, answersOf, longest, room}
-use Rattle.transcript.proofs.Sizes.{passes}
 
 -- the rest of the input, as a part of it
 pub part-all : (s : List ℕ) (at : ℕ) → take (length s - at) (drop at s) ≡ drop at s
@@ -43,6 +43,7 @@ left s m at p = linesFrom p (answersFrom (length s + 2 - p) (drop at s) m)
 
 -- what the loop keeps
 pub record Running (s out₀ out : List ℕ) (m : Machine) (at end p : ℕ) : Type 0 where
+  pub short : length s ≤ longest
   pub within : at ≤ length s
   pub first : 1 ≤ p
   pub counted : p ≤ at + 1
@@ -58,9 +59,10 @@ start-left s m e =
     λ i. linesFrom 1 (answersFrom (n i) s (e i))
 
 pub running-start :
-    (s out : List ℕ) (m : Machine) → m ≡ fresh → length s ≤ longest → room ≤ length out → Running s out out m 0 0 1
-running-start s out m e h k =
+    {s out : List ℕ} {m : Machine} → m ≡ fresh → length s ≤ longest → room ≤ length out → Running s out out m 0 0 1
+running-start {s} {out} {m} e h k =
     record {
+      short = h;
       within = omega arith;
       first = omega arith;
       counted = omega arith;
@@ -70,7 +72,7 @@ running-start s out m e h k =
       counts = omega (arith, ap length (start-left s m e));
     }
 
-module _ (s out₀ out : List ℕ) (m : Machine) (at end p : ℕ) (r : Running s out₀ out m at end p) where
+module _ {s out₀ out : List ℕ} {m : Machine} {at end p : ℕ} (r : Running s out₀ out m at end p) where
   -- the fuel of the definition is not used up
   fuel : length s + 2 - p ≡ suc (length s + 2 - (p + 1))
   fuel = omega (arith, r .within, r .first, r .counted)
@@ -122,6 +124,7 @@ module _ (s out₀ out : List ℕ) (m : Machine) (at end p : ℕ) (r : Running s
       let whole : length (drop at s) ≡ length s - at = length-drop at s in
       let same : length out′ ≡ length out = ap length (w .stored) ∙ length-sets out end line-here in
       record {
+        short = r .short;
         within = omega (arith, size .0, size .1, whole, r .within);
         first = omega arith;
         counted = omega (arith, size .0, r .counted);
@@ -131,19 +134,14 @@ module _ (s out₀ out : List ℕ) (m : Machine) (at end p : ℕ) (r : Running s
         counts = omega (arith, r .counts, ap length (on-left e), length-append line-here next-left, w .behind);
       }
 
--- one turn of the code, by what its calls say: the command c of the rest, its size n, the outcome o, the line, and whether c is last
+-- what one turn of the code finds at the front of the rest: the command c, its size n, and whether it is the last
 module _
-    (s out₀ out : List ℕ) (m : Machine) (at end p : ℕ) (r : Running s out₀ out m at end p)
-    (c : Command) (here : c ≡ commandOf (take (length s - at) (drop at s)))
-    (n : ℕ) (size : n ≡ sizeAt (take (length s - at) (drop at s)))
-    (o : Outcome) (ran : o ≡ execute c m)
-    (out′ : List ℕ) (end′ : ℕ) (w : Written out end (lineOf p (o .answer)) out′ end′)
-    (b : Bool) (tested : b ≡ isLast c) where
+    {s out₀ out : List ℕ} {m : Machine} {at end p : ℕ} (r : Running s out₀ out m at end p)
+    {c : Command} (here : c ≡ commandOf (take (length s - at) (drop at s)))
+    {n : ℕ} (size : n ≡ sizeAt (take (length s - at) (drop at s)))
+    {b : Bool} (tested : b ≡ isLast c) where
   command-here : c ≡ commandOf (drop at s)
   command-here = here ∙ ap commandOf (part-all s at)
-
-  outcome-here : o ≡ execute (commandOf (drop at s)) m
-  outcome-here = ran ∙ ap (λ d. execute d m) command-here
 
   size-here : n ≡ sizeAt (drop at s)
   size-here = size ∙ ap sizeAt (part-all s at)
@@ -151,17 +149,21 @@ module _
   last-here : (a : Bool) → b ≡ a → isLast (commandOf (drop at s)) ≡ a
   last-here a t = sym (ap isLast command-here) ∙ sym tested ∙ t
 
-  written-here : Written out end (lineOf p (execute (commandOf (drop at s)) m .answer)) out′ end′
-  written-here = subst (λ (a : Outcome). Written out end (lineOf p (a .answer)) out′ end′) outcome-here w
-
-  pub turn-end : b ≡ true → Written out₀ 0 (linesFrom 1 (answersOf s)) out′ end′
-  turn-end t = running-end s out₀ out m at end p r out′ end′ written-here (last-here true t)
-
   pub turn-size : b ≡ false → 2 ≤ n
   turn-size t = omega (arith, size-here, passes (drop at s) (last-here false t) .0)
 
-  pub turn-on : end′ ≤ end + 32 → b ≡ false → Running s out₀ out′ (o .machine) (at + n) end′ (p + 1)
-  turn-on short t =
-      subst (λ (a : Outcome). Running s out₀ out′ (a .machine) (at + n) end′ (p + 1)) (sym outcome-here)
-      (subst (λ (k : ℕ). Running s out₀ out′ (execute (commandOf (drop at s)) m .machine) (at + k) end′ (p + 1)) (sym size-here)
-      (running-on s out₀ out m at end p r out′ end′ written-here short (last-here false t)))
+  -- what it then does: the outcome o of the command, and the line of its answer
+  module _
+      {o : Outcome} (ran : o ≡ execute c m)
+      {out′ : List ℕ} {end′ : ℕ} (w : Written out end (lineOf p (o .answer)) out′ end′) where
+    outcome-here : o ≡ execute (commandOf (drop at s)) m
+    outcome-here = ran ∙ ap (λ d. execute d m) command-here
+
+    written-here : Written out end (lineOf p (execute (commandOf (drop at s)) m .answer)) out′ end′
+    written-here = subst (λ (a : Outcome). Written out end (lineOf p (a .answer)) out′ end′) outcome-here w
+
+    pub turn-end : b ≡ true → Written out₀ 0 (linesFrom 1 (answersOf s)) out′ end′
+    turn-end t = running-end r out′ end′ written-here (last-here true t)
+
+    pub turn-on : end′ ≤ end + 32 → b ≡ false → Running s out₀ out′ (o .machine) (at + n) end′ (p + 1)
+    turn-on short t = rw (outcome-here, size-here) (running-on r out′ end′ written-here short (last-here false t))

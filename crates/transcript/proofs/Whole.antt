@@ -1,5 +1,5 @@
 -- What the library function answers and leaves in the buffer, for each way through its tests.
-use Prim.Native.Nat.{ℕ, _+_, _<_, _≤_}
+use Prim.Native.Nat.{ℕ, _<_, _≤_}
 use mathlib.Core.Bool.{Bool, true, false, cond}
 use mathlib.Core.List.{List, _++_}
 use mathlib.Core.Path.{_≡_, sym, _∙_, ap}
@@ -16,23 +16,7 @@ use Rattle.text.specs.Written.{Written}
 use Rattle.transcript.specs.declared.Output.{Output}
 use Rattle.transcript.specs.Session.{room, longest, answersOf, linesFrom, outputOf, resultOf, bufferOf}
 
-module _ (s out : List ℕ) where
-  pub too-short : length out < room → (Output.Short ≡ resultOf s out) × (out ≡ bufferOf s out)
-  unfolding resultOf bufferOf
-  too-short h = (sym (rw (lt-ltb (length out) room h)), sym (rw (lt-ltb (length out) room h)))
-
-  pub enough :
-      room ≤ length out → (out′ : List ℕ) (end : ℕ) → Written out 0 (outputOf s) out′ end → end ≤ length out
-      → (Output.Bytes end ≡ resultOf s out) × (out′ ≡ bufferOf s out)
-  unfolding resultOf bufferOf
-  enough h out′ end w fits = (
-    ap Output.Bytes (w .behind ∙ zero-add (length (outputOf s))) ∙ sym (rw (le-ltb (length out) room h)),
-    w .stored
-        ∙ sets-eq (outputOf s) out 0 (omega (arith, w .behind))
-        ∙ ap (λ n. outputOf s ++ drop n out) (zero-add (length (outputOf s)))
-        ∙ sym (rw (le-ltb (length out) room h)),
-  )
-
+module _ (s : List ℕ) where
   pub output-long : longest < length s → lineOf 0 (Answer.Refused SessionTooLong) ≡ outputOf s
   unfolding outputOf
   output-long h = sym (rw (lt-ltb longest (length s) h))
@@ -40,6 +24,24 @@ module _ (s out : List ℕ) where
   pub output-run : length s ≤ longest → linesFrom 1 (answersOf s) ≡ outputOf s
   unfolding outputOf
   output-run h = sym (rw (le-ltb longest (length s) h))
+
+module _ (s out : List ℕ) where
+  pub too-short : length out < room → (Output.Short ≡ resultOf s out) × (out ≡ bufferOf s out)
+  unfolding resultOf bufferOf
+  too-short h = (sym (rw (lt-ltb (length out) room h)), sym (rw (lt-ltb (length out) room h)))
+
+  -- the output, written to the front of a buffer with room for it
+  pub enough :
+      room ≤ length out → {bytes out′ : List ℕ} {end : ℕ} → Written out 0 bytes out′ end → bytes ≡ outputOf s → end ≤ length out
+      → (Output.Bytes end ≡ resultOf s out) × (out′ ≡ bufferOf s out)
+  unfolding resultOf bufferOf
+  enough h {bytes} w e fits = (
+    ap Output.Bytes (w .behind ∙ zero-add (length bytes) ∙ ap length e) ∙ sym (rw (le-ltb (length out) room h)),
+    w .stored
+        ∙ sets-eq bytes out 0 (omega (arith, w .behind))
+        ∙ (λ i. e i ++ drop (zero-add (length (e i)) i) out)
+        ∙ sym (rw (le-ltb (length out) room h)),
+  )
 
   -- the bytes that are said to hold the output are bytes of the buffer
   pub bytes-fit : (out′ : List ℕ) (k : ℕ) → Output.Bytes k ≡ resultOf s out → out′ ≡ bufferOf s out → k ≤ length out′

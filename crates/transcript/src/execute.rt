@@ -1,6 +1,5 @@
-// One command run on the record, and whether it is the last that is read.
+// One command run on the record.
 ghost use mathlib.Core.Path.{_≡_};
-ghost use Rattle.command.specs.Command.{sizeAt, isLast};
 ghost use Rattle.transcript.specs.Session.{execute};
 use answer::Answer;
 use answer::Refusal;
@@ -41,36 +40,4 @@ pub fn execute(c: Command, r: Machine) -> Outcome
             machine: r,
         },
     }
-}
-
-// Nothing is read past the command.
-pub fn is_last(c: Command) -> bool
-    ensures { λ b. ⌜ b ≡ isLast c ⌝ }
-{
-    match c {
-        Command::End => true,
-        Command::Set { field: _, value: _ } => false,
-        Command::Level { level: _ } => false,
-        Command::Access {
-            word: _,
-            operand: _,
-        } => false,
-        Command::Read { offset: _ } => false,
-        Command::Write {
-            offset: _,
-            value: _,
-        } => false,
-        Command::Tick { prohibited: _ } => false,
-        Command::Bad(_) => true,
-    }
-}
-
-// How many bytes the command at the front takes.
-pub fn size_at(t: &[u8]) -> usize
-    ensures { λ n. ⌜ n ≡ sizeAt (now (t .entry)) ⌝ }
-{
-    if t.len() == 0 {
-        return 0;
-    }
-    1 + command::operand_bytes(t[0])
 }

@@ -23,11 +23,11 @@ fn run(input: &[u8], out: &mut [u8]) -> usize
     let mut position: u64 = 1;
     loop {
         let c = command::command_of(&input[at..]);
-        let size = execute::size_at(&input[at..]);
+        let size = command::reading::size_at(&input[at..]);
         let o = execute::execute(c, m);
         let a = o.answer;
         end = line::line(out, end, position, a);
-        if execute::is_last(c) {
+        if command::reading::is_last(c) {
             return end;
         }
         let next = o.machine;

@@ -1,24 +1,28 @@
--- `measure_by_value` meets its contract: what the entries passed added, and what those left will add, is the whole.
-use Prim.Native.Nat.{ℕ, _+_, _-_, _%_, _^_, _≤_}
+-- `measure_by_value` meets its contract: what the entries passed summed, and what those left will add, is the whole.
+use Prim.Native.Nat.{ℕ, _+_, _-_, _%_, _^_, _<_, _≤_}
 use mathlib.Core.Path.{_≡_, sym, _∙_, ap}
 use native.Mathlib.Omega.{arith}
 use borrow.Author.Needs.{needs}
-use lib.ListN.{length, drop}
-use Rattle.machine.specs.Machine.{fresh}
+use lib.ListN.{length}
 use Rattle.measure.specs.Measure.{started, total}
-use Rattle.measure.proofs.Total.{total-next, total-done}
+use Rattle.measure.proofs.Total.{summed, summed-all, summed-next, summed-done}
 use Rattle.measure.proofs.measure_by_value.Statement.{statement}
 use Rattle.measure.proofs.measure_by_value.Tie as tie
 
 abbrev Inv-loop : tie.InvT-loop
 Inv-loop sets list x m₀ sum₀ i₀ m sum i =
-    (i ≤ length list) × (total (drop i list) x sum m ≡ total list x 0 (started sets fresh))
+    (i ≤ length list) × (sum < 2 ^ 64) × (summed list x i sum m ≡ total list x (started sets))
 
 abbrev μ-loop : tie.MeasureT-loop
 μ-loop sets list x m₀ sum₀ i₀ m sum i = length list - i
 
 loop-holds : tie.Need-loop-holds Inv-loop μ-loop
-loop-holds c = (omega arith, ap (total (c .before .before .before .args .list .now) (c .before .before .before .args .x) 0) (c .start .ensures))
+loop-holds c =
+    let at-start = c .before .before .before in (
+      omega arith,
+      omega arith,
+      summed-all (at-start .args .list .now) (at-start .args .x) (c .start .result) ∙ ap (total (at-start .args .list .now) (at-start .args .x)) (c .start .ensures),
+    )
 
 mul-c : tie.Need-mul-c Inv-loop μ-loop
 mul-c c = search needs
@@ -39,17 +43,23 @@ loop-less : tie.Need-loop-less Inv-loop μ-loop
 loop-less c = omega arith
 
 loop-again : tie.Need-loop-again Inv-loop μ-loop
-loop-again c = (
-  omega arith,
-  total-next (c .before .before .before .before .before .before .before .before .before .before .args .list .now) (c .before .before .before .before .before .before .before .before .before .before .args .x) (c .before .before .before .before .before .before .loop .i) (c .before .before .before .before .before .before .loop .sum) (c .before .before .before .before .before .before .loop .m) (c .before .before .before .step .result) (c .before .wrapping-add-u64 .result)
-      (c .before .before .before .before .before .loop-test .taken)
-      (c .before .before .before .step .ensures)
-      (c .before .wrapping-add-u64 .ensures ∙ ap (λ (n : ℕ). (c .before .before .before .before .before .before .loop .sum + n) % 2 ^ 64) (c .before .before .worth .ensures))
-      ∙ c .before .before .before .before .before .before .loop .inv .1,
-)
+loop-again c =
+    let at-wrapping-add-u64 = c .before in
+    let at-worth = at-wrapping-add-u64 .before in
+    let at-step = at-worth .before in
+    let at-loop-test = at-step .before .before in
+    let at-loop = at-loop-test .before in
+    let at-start = at-loop .before .before .before .before in (
+      omega arith,
+      omega (arith, at-wrapping-add-u64 .wrapping-add-u64 .ensures),
+      summed-next (at-start .args .list .now) (at-start .args .x) (at-loop .loop .m) (at-loop .loop .sum) (at-loop-test .loop-test .taken) (at-step .step .ensures) (at-wrapping-add-u64 .wrapping-add-u64 .ensures ∙ ap (λ (n : ℕ). (at-loop .loop .sum + n) % 2 ^ 64) (at-worth .worth .ensures)) ∙ at-loop .loop .inv .2,
+    )
 
 returns : tie.Need-returns Inv-loop μ-loop
-returns c = sym (total-done (c .before .before .before .before .before .args .list .now) (c .before .before .before .before .before .args .x) (c .before .loop .i) (c .before .loop .sum) (c .before .loop .m) (c .loop-test .left)) ∙ c .before .loop .inv .1
+returns c =
+    let at-loop = c .before in
+    let at-start = at-loop .before .before .before .before in
+    sym (summed-done (at-start .args .list .now) (at-start .args .x) (at-loop .loop .m) (c .loop-test .left) (at-loop .loop .inv .1)) ∙ at-loop .loop .inv .2
 
 pub measure-by-value-spec : {M : Type 1} → statement M
 measure-by-value-spec =

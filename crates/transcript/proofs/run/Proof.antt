@@ -15,7 +15,9 @@ abbrev μ-loop : tie.MeasureT-loop
 μ-loop input out₀ m₀ at₀ end₀ position₀ out m at end position = length input - at
 
 loop-holds : tie.Need-loop-holds Inv-loop μ-loop
-loop-holds c = running-start (c .before .before .before .args .input .now) (c .before .before .before .args .out .now) (c .fresh .result) (c .fresh .ensures) (c .before .before .before .pre .0) (c .before .before .before .pre .1)
+loop-holds c =
+    let at-start = c .before .before .before in
+    running-start (c .fresh .ensures) (at-start .pre .0) (at-start .pre .1)
 
 sub-command-of : tie.Need-sub-command-of Inv-loop μ-loop
 sub-command-of c = omega (arith, c .loop .inv .within)
@@ -36,25 +38,62 @@ part-size-at-end : tie.Need-part-size-at-end Inv-loop μ-loop
 part-size-at-end c = omega (arith, c .before .before .loop .inv .within)
 
 line-requires : tie.Need-line-requires Inv-loop μ-loop
-line-requires c κs = (omega (arith, c .before .before .before .before .before .before .loop .inv .counted, c .before .before .before .before .before .before .loop .inv .within, c .before .before .before .before .before .before .before .before .before .before .pre .0), omega (arith, c .before .before .before .before .before .before .loop .inv .room))
+line-requires c κs =
+    let at-loop = c .before .before .before .before .before .before in (
+      omega (arith, at-loop .loop .inv .counted, at-loop .loop .inv .within, at-loop .loop .inv .short),
+      omega (arith, at-loop .loop .inv .room),
+    )
 
 same-length : tie.Need-same-length Inv-loop μ-loop
-same-length c = c .before .before .before .before .line .kept .0 ∙ c .before .before .before .before .before .before .before .before .before .before .before .loop .inv .kept
+same-length c =
+    let at-line = c .before .before .before .before in
+    let at-loop = at-line .before .before .before .before .before .before .before in
+    at-line .line .kept .0 ∙ at-loop .loop .inv .kept
 
 returns : tie.Need-returns Inv-loop μ-loop
-returns c = (turn-end (c .before .before .before .before .before .before .before .before .before .before .before .before .before .before .before .args .input .now) (c .before .before .before .before .before .before .before .before .before .before .before .before .before .before .before .args .out .now) (c .before .before .before .before .before .before .before .before .before .before .before .loop .out) (c .before .before .before .before .before .before .before .before .before .before .before .loop .m) (c .before .before .before .before .before .before .before .before .before .before .before .loop .at) (c .before .before .before .before .before .before .before .before .before .before .before .loop .end) (c .before .before .before .before .before .before .before .before .before .before .before .loop .position) (c .before .before .before .before .before .before .before .before .before .before .before .loop .inv) (c .before .before .before .before .before .before .before .before .before .command-of .result) (c .before .before .before .before .before .before .before .before .before .command-of .ensures) (c .before .before .before .before .before .before .before .size-at .result) (c .before .before .before .before .before .before .before .size-at .ensures) (c .before .before .before .before .before .before .execute .result) (c .before .before .before .before .before .before .execute .ensures) (c .before .before .before .before .line .last .0) (c .before .before .before .before .line .result) (c .before .before .before .before .line .ensures .0) (c .before .is-last .result) (c .before .is-last .ensures) (c .if1 .taken), omega (arith, c .before .before .before .before .line .ensures .1, c .before .before .before .before .before .before .before .before .before .before .before .loop .inv .room, c .before .before .before .before .before .before .before .before .before .before .before .loop .inv .kept))
-
-add-at : tie.Need-add-at Inv-loop μ-loop
-add-at c = omega (arith, turn-on (c .before .before .before .before .before .before .before .before .before .before .before .before .before .before .before .before .args .input .now) (c .before .before .before .before .before .before .before .before .before .before .before .before .before .before .before .before .args .out .now) (c .before .before .before .before .before .before .before .before .before .before .before .before .loop .out) (c .before .before .before .before .before .before .before .before .before .before .before .before .loop .m) (c .before .before .before .before .before .before .before .before .before .before .before .before .loop .at) (c .before .before .before .before .before .before .before .before .before .before .before .before .loop .end) (c .before .before .before .before .before .before .before .before .before .before .before .before .loop .position) (c .before .before .before .before .before .before .before .before .before .before .before .before .loop .inv) (c .before .before .before .before .before .before .before .before .before .before .command-of .result) (c .before .before .before .before .before .before .before .before .before .before .command-of .ensures) (c .before .before .before .before .before .before .before .before .size-at .result) (c .before .before .before .before .before .before .before .before .size-at .ensures) (c .before .before .before .before .before .before .before .execute .result) (c .before .before .before .before .before .before .before .execute .ensures) (c .before .before .before .before .before .line .last .0) (c .before .before .before .before .before .line .result) (c .before .before .before .before .before .line .ensures .0) (c .before .before .is-last .result) (c .before .before .is-last .ensures) (c .before .before .before .before .before .line .ensures .1) (c .before .if1 .left) .within, c .before .before .before .before .before .before .before .before .before .before .before .before .before .before .before .before .pre .0)
-
-add-position : tie.Need-add-position Inv-loop μ-loop
-add-position c = omega (arith, c .before .before .before .before .before .before .before .before .before .before .before .before .loop .inv .counted, c .before .before .before .before .before .before .before .before .before .before .before .before .loop .inv .within, c .before .before .before .before .before .before .before .before .before .before .before .before .before .before .before .before .pre .0)
-
-loop-less : tie.Need-loop-less Inv-loop μ-loop
-loop-less c = omega (arith, turn-on (c .before .before .before .before .before .before .before .before .before .before .before .before .before .before .before .before .args .input .now) (c .before .before .before .before .before .before .before .before .before .before .before .before .before .before .before .before .args .out .now) (c .before .before .before .before .before .before .before .before .before .before .before .before .loop .out) (c .before .before .before .before .before .before .before .before .before .before .before .before .loop .m) (c .before .before .before .before .before .before .before .before .before .before .before .before .loop .at) (c .before .before .before .before .before .before .before .before .before .before .before .before .loop .end) (c .before .before .before .before .before .before .before .before .before .before .before .before .loop .position) (c .before .before .before .before .before .before .before .before .before .before .before .before .loop .inv) (c .before .before .before .before .before .before .before .before .before .before .command-of .result) (c .before .before .before .before .before .before .before .before .before .before .command-of .ensures) (c .before .before .before .before .before .before .before .before .size-at .result) (c .before .before .before .before .before .before .before .before .size-at .ensures) (c .before .before .before .before .before .before .before .execute .result) (c .before .before .before .before .before .before .before .execute .ensures) (c .before .before .before .before .before .line .last .0) (c .before .before .before .before .before .line .result) (c .before .before .before .before .before .line .ensures .0) (c .before .before .is-last .result) (c .before .before .is-last .ensures) (c .before .before .before .before .before .line .ensures .1) (c .before .if1 .left) .within, turn-size (c .before .before .before .before .before .before .before .before .before .before .before .before .before .before .before .before .args .input .now) (c .before .before .before .before .before .before .before .before .before .before .before .before .before .before .before .before .args .out .now) (c .before .before .before .before .before .before .before .before .before .before .before .before .loop .out) (c .before .before .before .before .before .before .before .before .before .before .before .before .loop .m) (c .before .before .before .before .before .before .before .before .before .before .before .before .loop .at) (c .before .before .before .before .before .before .before .before .before .before .before .before .loop .end) (c .before .before .before .before .before .before .before .before .before .before .before .before .loop .position) (c .before .before .before .before .before .before .before .before .before .before .before .before .loop .inv) (c .before .before .before .before .before .before .before .before .before .before .command-of .result) (c .before .before .before .before .before .before .before .before .before .before .command-of .ensures) (c .before .before .before .before .before .before .before .before .size-at .result) (c .before .before .before .before .before .before .before .before .size-at .ensures) (c .before .before .before .before .before .before .before .execute .result) (c .before .before .before .before .before .before .before .execute .ensures) (c .before .before .before .before .before .line .last .0) (c .before .before .before .before .before .line .result) (c .before .before .before .before .before .line .ensures .0) (c .before .before .is-last .result) (c .before .before .is-last .ensures) (c .before .if1 .left))
+returns c =
+    let at-line = c .before .before .before .before in
+    let at-execute = at-line .before .before in
+    let at-size-at = at-execute .before in
+    let at-command-of = at-size-at .before .before in
+    let at-loop = at-command-of .before .before in (
+      turn-end (at-loop .loop .inv) (at-command-of .command-of .ensures) (at-size-at .size-at .ensures)
+          (c .before .is-last .ensures) (at-execute .execute .ensures) (at-line .line .ensures .0) (c .if1 .taken),
+      omega (arith, at-line .line .ensures .1, at-loop .loop .inv .room, at-loop .loop .inv .kept),
+    )
 
 loop-again : tie.Need-loop-again Inv-loop μ-loop
-loop-again c = turn-on (c .before .before .before .before .before .before .before .before .before .before .before .before .before .before .before .before .args .input .now) (c .before .before .before .before .before .before .before .before .before .before .before .before .before .before .before .before .args .out .now) (c .before .before .before .before .before .before .before .before .before .before .before .before .loop .out) (c .before .before .before .before .before .before .before .before .before .before .before .before .loop .m) (c .before .before .before .before .before .before .before .before .before .before .before .before .loop .at) (c .before .before .before .before .before .before .before .before .before .before .before .before .loop .end) (c .before .before .before .before .before .before .before .before .before .before .before .before .loop .position) (c .before .before .before .before .before .before .before .before .before .before .before .before .loop .inv) (c .before .before .before .before .before .before .before .before .before .before .command-of .result) (c .before .before .before .before .before .before .before .before .before .before .command-of .ensures) (c .before .before .before .before .before .before .before .before .size-at .result) (c .before .before .before .before .before .before .before .before .size-at .ensures) (c .before .before .before .before .before .before .before .execute .result) (c .before .before .before .before .before .before .before .execute .ensures) (c .before .before .before .before .before .line .last .0) (c .before .before .before .before .before .line .result) (c .before .before .before .before .before .line .ensures .0) (c .before .before .is-last .result) (c .before .before .is-last .ensures) (c .before .before .before .before .before .line .ensures .1) (c .before .if1 .left)
+loop-again c =
+    let at-is-last = c .before .before in
+    let at-line = at-is-last .before .before .before in
+    let at-execute = at-line .before .before in
+    let at-size-at = at-execute .before in
+    let at-command-of = at-size-at .before .before in
+    let at-loop = at-command-of .before .before in
+    turn-on (at-loop .loop .inv) (at-command-of .command-of .ensures) (at-size-at .size-at .ensures)
+    (at-is-last .is-last .ensures) (at-execute .execute .ensures) (at-line .line .ensures .0)
+    (at-line .line .ensures .1) (c .before .if1 .left)
+
+loop-less : tie.Need-loop-less Inv-loop μ-loop
+loop-less c =
+    let at-is-last = c .before .before in
+    let at-size-at = at-is-last .before .before .before .before .before .before in
+    let at-command-of = at-size-at .before .before in
+    let at-loop = at-command-of .before .before in
+    omega (
+      arith,
+      loop-again c .within,
+      turn-size (at-loop .loop .inv) (at-command-of .command-of .ensures) (at-size-at .size-at .ensures)
+          (at-is-last .is-last .ensures) (c .before .if1 .left),
+    )
+
+add-at : tie.Need-add-at Inv-loop μ-loop
+add-at c = omega (arith, loop-again c .within)
+
+add-position : tie.Need-add-position Inv-loop μ-loop
+add-position c =
+    let at-loop = c .before .before .before .before .before .before .before .before .before .before .before .before in
+    omega (arith, at-loop .loop .inv .counted, at-loop .loop .inv .within, at-loop .loop .inv .short)
 
 pub run-spec : {M : Type 1} → statement M
 run-spec =

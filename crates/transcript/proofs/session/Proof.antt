@@ -1,22 +1,35 @@
 -- `transcript::session` meets its contract: a case for each branch, by the contracts of what it calls.
-use Prim.Native.Nat.{ℕ}
-use mathlib.Core.List.{List}
-use mathlib.Core.Path.{subst}
 use native.Mathlib.Omega.{arith}
-use Rattle.text.specs.Written.{Written}
 use Rattle.transcript.proofs.Whole.{too-short, enough, output-long, output-run}
 use borrow.Author.Needs.{needs}
 use Rattle.transcript.proofs.session.Statement.{statement}
 use Rattle.transcript.proofs.session.Tie as tie
 
 returns : tie.Need-returns
-returns c = too-short (c .before .before .before .args .input .now) (c .before .before .before .args .out .now) (c .if1 .taken)
+returns c =
+    let at-start = c .before .before .before in
+    too-short (at-start .args .input .now) (at-start .args .out .now) (omega (arith, c .if1 .taken))
 
 returns-2 : tie.Need-returns-2
-returns-2 c = enough (c .before .before .before .before .before .before .before .before .args .input .now) (c .before .before .before .before .before .before .before .before .args .out .now) (c .before .before .before .before .before .if1 .left) (c .before .before .line .last .0) (c .before .before .line .result) (subst (λ (l : List ℕ). Written (c .before .before .before .before .before .before .before .before .args .out .now) 0 l (c .before .before .line .last .0) (c .before .before .line .result)) (output-long (c .before .before .before .before .before .before .before .before .args .input .now) (c .before .before .before .before .before .before .before .before .args .out .now) (c .before .before .before .before .if2 .taken)) (c .before .before .line .ensures .0)) (omega (arith, c .before .before .line .ensures .1, c .before .before .before .before .before .if1 .left))
+returns-2 c =
+    let at-line = c .before .before in
+    let at-if2 = at-line .before .before in
+    let at-if1 = at-if2 .before in
+    let at-start = at-if1 .before .before .before in
+    let long = output-long (at-start .args .input .now) (omega (arith, at-if2 .if2 .taken)) in
+    enough (at-start .args .input .now) (at-start .args .out .now) (omega (arith, at-if1 .if1 .left))
+    (at-line .line .ensures .0) long
+    (omega (arith, at-line .line .ensures .1, at-if1 .if1 .left))
 
 returns-3 : tie.Need-returns-3
-returns-3 c = enough (c .before .before .before .before .before .before .before .before .args .input .now) (c .before .before .before .before .before .before .before .before .args .out .now) (c .before .before .before .before .before .if1 .left) (c .before .before .run .last .1 .0) (c .before .before .run .result) (subst (λ (l : List ℕ). Written (c .before .before .before .before .before .before .before .before .args .out .now) 0 l (c .before .before .run .last .1 .0) (c .before .before .run .result)) (output-run (c .before .before .before .before .before .before .before .before .args .input .now) (c .before .before .before .before .before .before .before .before .args .out .now) (c .before .before .before .before .if2 .left)) (c .before .before .run .ensures .0)) (c .before .before .run .ensures .1)
+returns-3 c =
+    let at-run = c .before .before in
+    let at-if2 = at-run .before .before in
+    let at-if1 = at-if2 .before in
+    let at-start = at-if1 .before .before .before in
+    let whole = output-run (at-start .args .input .now) (omega (arith, at-if2 .if2 .left)) in
+    enough (at-start .args .input .now) (at-start .args .out .now) (omega (arith, at-if1 .if1 .left))
+    (at-run .run .ensures .0) whole (at-run .run .ensures .1)
 
 pub session-spec : {M : Type 1} → statement M
 session-spec =

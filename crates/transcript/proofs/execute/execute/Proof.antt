@@ -10,26 +10,38 @@ returns c = simp (c .enum-told .given .1)
 
 returns-2 : tie.Need-returns-2
 unfolding execute
-returns-2 c = simp (c .before .before .c .given .1) (c .set .ensures)
+returns-2 c =
+    let at-c = c .before .before in
+    simp (at-c .c .given .1) (c .set .ensures)
 
 returns-3 : tie.Need-returns-3
 unfolding execute
-returns-3 c = simp (c .before .before .c2 .given .1) (c .set-level .ensures)
+returns-3 c =
+    let at-c2 = c .before .before in
+    simp (at-c2 .c2 .given .1) (c .set-level .ensures)
 
 returns-4 : tie.Need-returns-4
 unfolding execute
-returns-4 c = simp (c .before .before .c3 .given .1) (c .step .ensures)
+returns-4 c =
+    let at-c3 = c .before .before in
+    simp (at-c3 .c3 .given .1) (c .step .ensures)
 
 returns-5 : tie.Need-returns-5
 unfolding execute
-returns-5 c = simp (c .before .before .c4 .given .1) (c .read .ensures)
+returns-5 c =
+    let at-c4 = c .before .before in
+    simp (at-c4 .c4 .given .1) (c .read .ensures)
 
 returns-6 : tie.Need-returns-6
 unfolding execute
-returns-6 c = simp (c .before .before .c5 .given .1) (c .write .ensures)
+returns-6 c =
+    let at-c5 = c .before .before in
+    simp (at-c5 .c5 .given .1) (c .write .ensures)
 
 returns-7 : tie.Need-returns-7
-returns-7 c = simp (c .before .before .c6 .given .1) (c .tick .ensures)
+returns-7 c =
+    let at-c6 = c .before .before in
+    simp (at-c6 .c6 .given .1) (c .tick .ensures)
 
 returns-8 : tie.Need-returns-8
 unfolding execute

@@ -1,4 +1,5 @@
 -- `transcript::execute::tick` meets its contract: a case for each branch, by the contracts of what it calls.
+use native.Mathlib.Omega.{arith}
 use borrow.Author.Tests.{lt-ltb, le-ltb}
 use Rattle.transcript.specs.Session.{execute}
 use borrow.Author.Needs.{needs}
@@ -7,11 +8,13 @@ use Rattle.transcript.proofs.execute.tick.Tie as tie
 
 returns : tie.Need-returns
 unfolding execute
-returns c = simp (lt-ltb _ _ (c .if1 .taken))
+returns c = simp (lt-ltb 1 (c .before .args .p) (omega arith))
 
 returns-2 : tie.Need-returns-2
 unfolding execute
-returns-2 c = simp (le-ltb _ _ (c .before .if1 .left)) (c .tick .ensures)
+returns-2 c =
+    let at-start = c .before .before in
+    simp (le-ltb 1 (at-start .args .p) (omega arith)) (c .tick .ensures)
 
 pub tick-spec : {M : Type 1} → statement M
 tick-spec = tie.close (tie.spec returns (λ c κs. search needs) returns-2)

@@ -1,12 +1,12 @@
--- `transcript::execute::size_at` meets its contract: a case for each branch, by the contracts of what it calls.
+-- `command::reading::size_at` meets its contract: a case for each branch, by the contracts of what it calls.
 use Prim.Native.Nat.{_+_}
 use mathlib.Core.Path.{sym, _∙_, ap}
 use native.Mathlib.Omega.{arith}
 use lib.ListN.{getD}
-use Rattle.transcript.proofs.Sizes.{size-none, size-some, few-operands}
+use Rattle.command.proofs.Sizes.{size-none, size-some, few-operands}
 use borrow.Author.Needs.{needs}
-use Rattle.transcript.proofs.execute.size_at.Statement.{statement}
-use Rattle.transcript.proofs.execute.size_at.Tie as tie
+use Rattle.command.proofs.reading.size_at.Statement.{statement}
+use Rattle.command.proofs.reading.size_at.Tie as tie
 
 returns : tie.Need-returns
 returns c = sym (size-none (c .before .before .args .t .now) (c .if1 .taken))

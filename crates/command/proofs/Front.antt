@@ -1,0 +1,38 @@
+-- The command at the front of the bytes: a law for each way that its tests can go.
+use Prim.Native.Nat.{ℕ, suc, _-_, _<_, _≤_}
+use mathlib.Core.Bool.{cond}
+use mathlib.Core.List.{List, [], _∷_}
+use mathlib.Core.Path.{_≡_, refl, _∙_}
+use native.Mathlib.Omega.{arith}
+use borrow.Author.Tests.{lt-ltb, le-ltb}
+use lib.Dec.{ltb}
+use lib.ListN.{length, getD, drop}
+use Rattle.answer.specs.declared.Refusal.the-variants.{UnknownCommand, Truncated}
+use Rattle.command.specs.declared.Command.{Command}
+use Rattle.command.specs.Command.{operandBytes, isUnknown, commandWith, commandOf}
+
+pub front-none : (s : List ℕ) → length s ≡ 0 → commandOf s ≡ Command.Bad Truncated
+unfolding commandOf
+front-none [] h = refl
+front-none (c ∷ s) h = let z : ⊥ = omega arith in absurd z
+
+-- the tests on bytes that are not empty
+tests :
+    (s : List ℕ) → 0 < length s
+    → commandOf s
+    ≡ cond (isUnknown (getD s 0 0)) (Command.Bad UnknownCommand)
+    (cond (ltb (length s - 1) (operandBytes (getD s 0 0))) (Command.Bad Truncated) (commandWith (getD s 0 0) (drop 1 s)))
+unfolding commandOf
+tests [] h = let z : ⊥ = omega arith in absurd z
+tests (c ∷ s) h = let e : suc (length s) - 1 ≡ length s = omega arith in rw e
+
+module _ (s : List ℕ) (some : 0 < length s) where
+  pub front-unknown : 6 < getD s 0 0 → commandOf s ≡ Command.Bad UnknownCommand
+  front-unknown h = tests s some ∙ rw (lt-ltb 6 (getD s 0 0) h)
+
+  pub front-cut : getD s 0 0 ≤ 6 → length s - 1 < operandBytes (getD s 0 0) → commandOf s ≡ Command.Bad Truncated
+  front-cut k h = tests s some ∙ rw (le-ltb 6 (getD s 0 0) k, lt-ltb (length s - 1) (operandBytes (getD s 0 0)) h)
+
+  pub front-whole :
+      getD s 0 0 ≤ 6 → operandBytes (getD s 0 0) ≤ length s - 1 → commandOf s ≡ commandWith (getD s 0 0) (drop 1 s)
+  front-whole k h = tests s some ∙ rw (le-ltb 6 (getD s 0 0) k, le-ltb (length s - 1) (operandBytes (getD s 0 0)) h)

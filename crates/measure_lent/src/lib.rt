@@ -1,0 +1,36 @@
+// A list of accesses run in a loop by the step with the counters lent, the record one local of the loop, so that bench/ can count
+// and time it: the loop of `measure`, in a library of its own, so that each step has one caller.
+ghost use mathlib.Core.Path.{_≡_};
+ghost use Rattle.measure.specs.Measure.{started, total};
+
+// The sum of a list's answers.
+#[no_mangle]
+pub extern "C" fn measure_lent(sets: &[u64], list: &[u64], x: u64) -> u64
+    ensures { λ s. ⌜ s ≡ total (now (list .entry)) x (started (now (sets .entry))) ⌝ }
+{
+    let mut m = measure::start(sets);
+    let mut sum: u64 = 0;
+    let mut i = 0;
+    while i < list.len() {
+        let c = list[i];
+        let level = ((c >> 32) % 4) as u8;
+        let events = m.events;
+        let settings = m.settings;
+        let instructions = m.instructions;
+        let said = access::lent(
+            &mut m.counters,
+            &events,
+            settings,
+            level,
+            instructions,
+            (c % 0x100000000) as u32,
+            x,
+        );
+        m.level = level;
+        m.instructions = said.instructions;
+        let a = said.answer;
+        sum = std::num::wrapping_add_u64(sum, measure::worth(a));
+        i += 1;
+    }
+    sum
+}
