@@ -20,7 +20,8 @@ use Rattle.machine.proofs.Machine as M′
 use Rattle.rules.specs.Isolation.{SameExcept, Kept, Named, Isolated, Claim}
 use Rattle.rules.proofs.Isolation.{noninterference}
 use Rattle.rules.specs.Step.{Access, step, access, run}
-use Rattle.access.specs.Calls.{Holds, Obeyed, MayGive, Calls, none, next, AnsweredAlike, CallsClaim, CallsNoninterference}
+use Rattle.access.specs.Calls.{Holds, Obeyed, Reference, MayGive, Calls, none, next, AnsweredAlike, CallsClaim}
+use Rattle.access.specs.Calls.{CallsNoninterference}
 use Rattle.access.proofs.step as by-value
 
 -- what a contract without a `requires` asks
@@ -35,6 +36,10 @@ said m φ s = ∥∥₁-map (Sat·exists (m .𝓤) (λ (_ : φ). emp (m .𝓤)) 
 -- and that it states a fact which is true
 pub stated : (m : World) (φ : Type 0) → φ → Holds m (emp (m .𝓤)) → Holds m (fact (m .𝓤) φ)
 stated m φ t s = sProp·Sat·mono (m .𝓤 .op) (factI (m .𝓤) φ (emp (m .𝓤)) t) s
+
+-- a reference, where any will do
+abbrev pub any : Reference
+any = record { lifetime = []; ptr = (0, 0); name = 0 }
 
 -- the answer and the record that the definition `step` says
 abbrev pub OfStep : ℕ → ℕ → Machine → Answer → Machine → Type 0

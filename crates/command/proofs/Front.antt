@@ -1,4 +1,4 @@
--- The command at the front of the bytes: a law for each way that its tests can go.
+-- The command at the front of the bytes: a law for each way that its front-tests can go.
 use Prim.Native.Nat.{ℕ, suc, _-_, _<_, _≤_}
 use mathlib.Core.Bool.{cond}
 use mathlib.Core.List.{List, [], _∷_}
@@ -16,23 +16,23 @@ unfolding commandOf
 front-none [] h = refl
 front-none (c ∷ s) h = let z : ⊥ = omega arith in absurd z
 
--- the tests on bytes that are not empty
-tests :
+-- the front-tests on bytes that are not empty
+front-tests :
     (s : List ℕ) → 0 < length s
     → commandOf s
     ≡ cond (isUnknown (getD s 0 0)) (Command.Bad UnknownCommand)
     (cond (ltb (length s - 1) (operandBytes (getD s 0 0))) (Command.Bad Truncated) (commandWith (getD s 0 0) (drop 1 s)))
 unfolding commandOf
-tests [] h = let z : ⊥ = omega arith in absurd z
-tests (c ∷ s) h = let e : suc (length s) - 1 ≡ length s = omega arith in rw e
+front-tests [] h = let z : ⊥ = omega arith in absurd z
+front-tests (c ∷ s) h = let e : suc (length s) - 1 ≡ length s = omega arith in rw e
 
-module _ (s : List ℕ) (some : 0 < length s) where
+module _ (s : List ℕ) (filled : 0 < length s) where
   pub front-unknown : 6 < getD s 0 0 → commandOf s ≡ Command.Bad UnknownCommand
-  front-unknown h = tests s some ∙ rw (lt-ltb 6 (getD s 0 0) h)
+  front-unknown h = front-tests s filled ∙ rw (lt-ltb 6 (getD s 0 0) h)
 
   pub front-cut : getD s 0 0 ≤ 6 → length s - 1 < operandBytes (getD s 0 0) → commandOf s ≡ Command.Bad Truncated
-  front-cut k h = tests s some ∙ rw (le-ltb 6 (getD s 0 0) k, lt-ltb (length s - 1) (operandBytes (getD s 0 0)) h)
+  front-cut k h = front-tests s filled ∙ rw (le-ltb 6 (getD s 0 0) k, lt-ltb (length s - 1) (operandBytes (getD s 0 0)) h)
 
   pub front-whole :
       getD s 0 0 ≤ 6 → operandBytes (getD s 0 0) ≤ length s - 1 → commandOf s ≡ commandWith (getD s 0 0) (drop 1 s)
-  front-whole k h = tests s some ∙ rw (le-ltb 6 (getD s 0 0) k, le-ltb (length s - 1) (operandBytes (getD s 0 0)) h)
+  front-whole k h = front-tests s filled ∙ rw (le-ltb 6 (getD s 0 0) k, le-ltb (length s - 1) (operandBytes (getD s 0 0)) h)

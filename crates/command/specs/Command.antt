@@ -64,3 +64,14 @@ isLast (Command.Read o) = false
 isLast (Command.Write o x) = false
 isLast (Command.Tick p) = false
 isLast (Command.Bad r) = true
+
+-- the command is an access
+abbrev pub isAccess : Command → Bool
+isAccess Command.End = false
+isAccess (Command.Set f v) = false
+isAccess (Command.Level l) = false
+isAccess (Command.Access w x) = true
+isAccess (Command.Read o) = false
+isAccess (Command.Write o x) = false
+isAccess (Command.Tick p) = false
+isAccess (Command.Bad r) = false

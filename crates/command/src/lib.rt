@@ -19,7 +19,8 @@ pub enum Command {
     Bad(Refusal),
 }
 
-fn wide(x: u8) -> u64
+// A byte as a 64-bit number.
+fn zero_extend(x: u8) -> u64
     ensures { λ r. ⌜ (r ≡ x) × (r < 256) ⌝ }
 {
     x as u64
@@ -30,7 +31,7 @@ fn two(s: &[u8], at: usize) -> u64
     requires { ⌜ at + 2 ≤ length (now s) ⌝ }
     ensures { λ r. ⌜ (r ≡ operand (now (s .entry)) at 2) × (r < 2 ^ 16) ⌝ }
 {
-    wide(s[at]) + 256 * wide(s[at + 1])
+    zero_extend(s[at]) + 256 * zero_extend(s[at + 1])
 }
 
 // The number in four bytes.

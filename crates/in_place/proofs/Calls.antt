@@ -1,10 +1,9 @@
 -- Noninterference of `in_place::step`, as specs/Calls.antt of `access` states it, by the induction there. All that is known of a
 -- call is the contract of `in_place::step`, as the check takes it from the source: were it weaker, `call-exact` would be refused.
-use mathlib.Core.List.{[]}
 use mathlib.Core.Path.{refl}
 use borrow.Fn.World.{World}
 use Rattle.access.specs.Calls.{Obeyed, Reference, to, MayGive, CallsNoninterference}
-use Rattle.access.proofs.Calls.{asked, said, stated, OfStep, Exact, exact-noninterference}
+use Rattle.access.proofs.Calls.{asked, said, stated, any, OfStep, Exact, exact-noninterference}
 use Rattle.in_place.proofs.step as step′
 
 -- a call of `in_place::step`, with any reference: an answer, and a record behind the reference at its return, of which the
@@ -25,7 +24,7 @@ call-exact : (m : World) → Exact (Call m)
 call-exact m =
     record {
       only = λ w x r answer after c. said m (OfStep w x r answer after) (c .1 tt (asked m));
-      may = λ w x r. (record { lifetime = []; ptr = (0, 0); name = 0 }, λ g s. stated m (OfStep w x r _ _) (refl, refl) s);
+      may = λ w x r. (any, λ g s. stated m (OfStep w x r _ _) (refl, refl) s);
     }
 
 -- demand 3 of the calls of `in_place::step`

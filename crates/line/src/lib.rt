@@ -1,5 +1,4 @@
 // The line of an answer at its position, written into a buffer.
-ghost use mathlib.Core.Path.{_≡_};
 ghost use Prim.Native.Nat.{_+_, _<_, _≤_};
 ghost use lib.ListN.{length};
 ghost use Rattle.answer.specs.declared.Answer.{Answer};
@@ -10,34 +9,22 @@ use answer::Answer;
 use answer::Refusal;
 use answer::Trap;
 
-fn wide(x: u8) -> u64
-    ensures { λ r. ⌜ r ≡ x ⌝ }
-{
-    x as u64
-}
-
-fn wide32(x: u32) -> u64
-    ensures { λ r. ⌜ r ≡ x ⌝ }
-{
-    x as u64
-}
-
 fn trap(out: &mut [u8], at: usize, t: Trap) -> usize
     requires { ⌜ at + 40 ≤ length (now out) ⌝ }
     ensures { λ end. ⌜ Written (now (out .entry)) at (textOf (Answer.Trap t)) (now (out .exit)) end × (end ≤ at + 26) ⌝ }
 {
     let target = t.target;
-    let a = text::word(out, at, b"trap ");
-    let b = text::decimal(out, a, wide(answer::level_number(target)));
-    let c = text::word(out, b, b" ");
-    text::hex(out, c, 8, wide32(t.syndrome))
+    let a = text::bytes(out, at, b"trap ");
+    let b = text::decimal(out, a, answer::level_number(target) as u64);
+    let c = text::bytes(out, b, b" ");
+    text::hex(out, c, 8, t.syndrome as u64)
 }
 
 fn value(out: &mut [u8], at: usize, x: u64) -> usize
     requires { ⌜ at + 40 ≤ length (now out) ⌝ }
     ensures { λ end. ⌜ Written (now (out .entry)) at (textOf (Answer.Value x)) (now (out .exit)) end × (end ≤ at + 26) ⌝ }
 {
-    let a = text::word(out, at, b"value ");
+    let a = text::bytes(out, at, b"value ");
     text::hex(out, a, 16, x)
 }
 
@@ -45,18 +32,18 @@ fn mrs(out: &mut [u8], at: usize, x: u64, rt: u8) -> usize
     requires { ⌜ at + 40 ≤ length (now out) ⌝ }
     ensures { λ end. ⌜ Written (now (out .entry)) at (textOf (Answer.Mrs x rt)) (now (out .exit)) end × (end ≤ at + 26) ⌝ }
 {
-    let a = text::word(out, at, b"value ");
+    let a = text::bytes(out, at, b"value ");
     let b = text::hex(out, a, 16, x);
-    let c = text::word(out, b, b" ");
-    text::decimal(out, c, wide(rt))
+    let c = text::bytes(out, b, b" ");
+    text::decimal(out, c, rt as u64)
 }
 
 fn refused(out: &mut [u8], at: usize, r: Refusal) -> usize
     requires { ⌜ at + 40 ≤ length (now out) ⌝ }
     ensures { λ end. ⌜ Written (now (out .entry)) at (textOf (Answer.Refused r)) (now (out .exit)) end × (end ≤ at + 26) ⌝ }
 {
-    let a = text::word(out, at, b"refused ");
-    text::decimal(out, a, wide(answer::refusal_number(r)))
+    let a = text::bytes(out, at, b"refused ");
+    text::decimal(out, a, answer::refusal_number(r) as u64)
 }
 
 // The text of an answer, 26 bytes at most.
@@ -65,11 +52,11 @@ fn answer_text(out: &mut [u8], at: usize, a: Answer) -> usize
     ensures { λ end. ⌜ Written (now (out .entry)) at (textOf a) (now (out .exit)) end × (end ≤ at + 26) ⌝ }
 {
     match a {
-        Answer::Ok => text::word(out, at, b"ok"),
-        Answer::End => text::word(out, at, b"end"),
-        Answer::Undef => text::word(out, at, b"undef"),
-        Answer::Other => text::word(out, at, b"other"),
-        Answer::Error => text::word(out, at, b"error"),
+        Answer::Ok => text::bytes(out, at, b"ok"),
+        Answer::End => text::bytes(out, at, b"end"),
+        Answer::Undef => text::bytes(out, at, b"undef"),
+        Answer::Other => text::bytes(out, at, b"other"),
+        Answer::Error => text::bytes(out, at, b"error"),
         Answer::Trap(t) => trap(out, at, t),
         Answer::Value(x) => value(out, at, x),
         Answer::Mrs { value, rt } => mrs(out, at, value, rt),
@@ -83,7 +70,7 @@ pub fn line(out: &mut [u8], at: usize, position: u64, a: Answer) -> usize
     ensures { λ end. ⌜ Written (now (out .entry)) at (lineOf position a) (now (out .exit)) end × (end ≤ at + 32) ⌝ }
 {
     let b = text::decimal(out, at, position);
-    let c = text::word(out, b, b" ");
+    let c = text::bytes(out, b, b" ");
     let d = answer_text(out, c, a);
-    text::word(out, d, b"\n")
+    text::bytes(out, d, b"\n")
 }

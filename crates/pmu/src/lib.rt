@@ -17,7 +17,8 @@ pub extern "C" fn pmu_room() -> usize
 // have, or 0 where the buffer is shorter than `pmu_room`, which is then left alone.
 #[no_mangle]
 pub extern "C" fn pmu_session(input: &[u8], out: &mut [u8]) -> usize
-    ensures { λ n. ⌜ (n ≡ sizeOf (resultOf (now (input .entry)) (now (out .entry)))) × (now (out .exit) ≡ bufferOf (now (input .entry)) (now (out .entry))) ⌝ }
+    ensures { λ n. ⌜ (n ≡ sizeOf (resultOf (now (input .entry)) (now (out .entry))))
+        × (now (out .exit) ≡ bufferOf (now (input .entry)) (now (out .entry))) ⌝ }
 {
     match transcript::session(input, out) {
         Output::Short => 0,

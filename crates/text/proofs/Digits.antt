@@ -1,13 +1,15 @@
 -- Laws of decimal and hexadecimal digits: the cases of a number below 10,000, and one hexadecimal digit a turn.
 use Prim.Native.Nat.{ℕ, zero, suc, _+_, _-_, _*_, _/_, _%_, _^_, _<_, _≤_}
-use mathlib.Core.List.{[], _∷_}
+use mathlib.Core.List.{List, [], _∷_, _++_}
 use mathlib.Core.Path.{_≡_, refl, ap}
+use native.Mathlib.Numerals.{add-one}
 use native.Mathlib.Omega.{arith}
-use borrow.Author.Tests.{lt-ltb, le-ltb, ltb-true, ltb-false}
-use lib.Dec.{ltb, lit≤}
-use mathlib.Core.Bool.{Bool, true, false}
-use lib.ListN.{length}
-use Rattle.text.specs.Text.{decimal, hexDigit, hex}
+use borrow.Author.Tests.{lt-ltb, le-ltb, ltb-false}
+use lib.Dec.{ltb}
+use mathlib.Core.Bool.{Bool, true, false, cond}
+use lib.ListN.{length, set, length-append}
+use lib.Seq.{sets}
+use Rattle.text.specs.Text.{decimalDigits, decimal, hexDigit, hex}
 
 pub decimal-1 : (n : ℕ) → n < 10 → decimal n ≡ (48 + n) ∷ []
 unfolding decimal
@@ -34,25 +36,27 @@ decimal-4 n l h =
       lt-ltb (n / 10 / 10 / 10) 10 (omega arith),
     )
 
--- at most four digits
-pub decimal-short : (n : ℕ) → n < 10000 → length (decimal n) ≤ 4
-decimal-short n h = go (ltb n 10) refl (ltb n 100) refl (ltb n 1000) refl
+-- a number below 10^k has at most k digits
+digits-length : (j k n : ℕ) → n < 10 ^ suc k → length (decimalDigits j n) ≤ suc k
+digits-length zero k n h = omega arith
+digits-length (suc j) k n h = go (ltb n 10) refl k h (digits-length j)
   where
     go :
-        (a : Bool) → ltb n 10 ≡ a → (b : Bool) → ltb n 100 ≡ b → (c : Bool) → ltb n 1000 ≡ c → length (decimal n) ≤ 4
-    go true e b f c g = rw (decimal-1 n (ltb-true n 10 e)) (lit≤ tt)
-    go false e true f c g = rw (decimal-2 n (ltb-false n 10 e) (ltb-true n 100 f)) (lit≤ tt)
-    go false e false f true g = rw (decimal-3 n (ltb-false n 100 f) (ltb-true n 1000 g)) (lit≤ tt)
-    go false e false f false g = rw (decimal-4 n (ltb-false n 1000 g) h) (lit≤ tt)
+        (b : Bool) → ltb n 10 ≡ b → (k : ℕ) → n < 10 ^ suc k
+        → ((k m : ℕ) → m < 10 ^ suc k → length (decimalDigits j m) ≤ suc k)
+        → length (cond b ((48 + n) ∷ []) (decimalDigits j (n / 10) ++ ((48 + n % 10) ∷ []))) ≤ suc k
+    go true e k h front = omega arith
+    go false e zero h front = let z : ⊥ = omega (arith, ltb-false n 10 e) in absurd z
+    go false e (suc k) h front =
+        omega (
+          arith,
+          length-append (decimalDigits j (n / 10)) ((48 + n % 10) ∷ []),
+          front k (n / 10) (omega arith),
+        )
 
--- at most three
-pub decimal-shorter : (n : ℕ) → n < 1000 → length (decimal n) ≤ 3
-decimal-shorter n h = go (ltb n 10) refl (ltb n 100) refl
-  where
-    go : (a : Bool) → ltb n 10 ≡ a → (b : Bool) → ltb n 100 ≡ b → length (decimal n) ≤ 3
-    go true e b f = rw (decimal-1 n (ltb-true n 10 e)) (lit≤ tt)
-    go false e true f = rw (decimal-2 n (ltb-false n 10 e) (ltb-true n 100 f)) (lit≤ tt)
-    go false e false f = rw (decimal-3 n (ltb-false n 100 f) h) (lit≤ tt)
+pub decimal-length : (k n : ℕ) → n < 10 ^ suc k → length (decimal n) ≤ suc k
+unfolding decimal
+decimal-length k n h = digits-length 20 k n h
 
 pub length-hex : (k x : ℕ) → length (hex k x) ≡ k
 unfolding hex
@@ -60,7 +64,18 @@ length-hex zero x = refl
 length-hex (suc k) x = ap suc (length-hex k x)
 
 -- the highest of k digits
-pub hex-turn : (k x : ℕ) → 0 < k → hex k x ≡ hexDigit (x / 2 ^ (4 * (k - 1)) % 16) ∷ hex (k - 1) x
+hex-first : (k x : ℕ) → 0 < k → hex k x ≡ hexDigit (x / 2 ^ (4 * (k - 1)) % 16) ∷ hex (k - 1) x
 unfolding hex
-hex-turn zero x h = let z : ⊥ = omega arith in absurd z
-hex-turn (suc k) x h = let e : suc k - 1 ≡ k = omega arith in rw e
+hex-first zero x h = let z : ⊥ = omega arith in absurd z
+hex-first (suc k) x h = let e : suc k - 1 ≡ k = omega arith in rw e
+
+-- digits stored one a turn
+module _ (l : List ℕ) (at k x : ℕ) where
+  pub hex-turn :
+      0 < k → {d : ℕ} → d ≡ hexDigit (x / 2 ^ (4 * (k - 1)) % 16)
+      → sets l at (hex k x) ≡ sets (set l at d) (at + 1) (hex (k - 1) x)
+  hex-turn h e = rw (hex-first k x h, add-one at, e)
+
+  pub hex-done : k ≡ 0 → sets l at (hex k x) ≡ l
+  unfolding hex
+  hex-done e = rw e

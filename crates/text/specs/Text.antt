@@ -1,4 +1,4 @@
--- Text as lists of bytes: a fixed word, a number in decimal, and the low bits of a number in uppercase hexadecimal.
+-- Text as lists of bytes: a fixed text, a number in decimal, and the low bits of a number in uppercase hexadecimal.
 use Prim.Native.Nat.{ℕ, zero, suc, _+_, _*_, _/_, _%_, _^_}
 use Prim.Native.Char.{code}
 use Prim.Native.String.{String, [] as empty, _∷_ as _then_}

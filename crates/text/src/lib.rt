@@ -1,13 +1,13 @@
-// Numbers and words written into a buffer as the bytes of a line: fixed words, decimal, uppercase hexadecimal. Each writer asks for
-// room for what it writes, and returns the place behind it.
+// Text written into a buffer as the bytes of a line: fixed bytes, decimal, uppercase hexadecimal. Each writer asks for room for
+// what it writes, and returns the place behind it.
 ghost use mathlib.Core.Path.{_≡_};
 ghost use Prim.Native.Nat.{_+_, _<_, _≤_};
 ghost use lib.ListN.{length};
 ghost use Rattle.text.specs.Text.{decimal, hexDigit, hex};
 ghost use Rattle.text.specs.Written.{Written};
 
-// The bytes of a fixed word.
-pub fn word(out: &mut [u8], at: usize, s: &[u8]) -> usize
+// The bytes of a fixed text.
+pub fn bytes(out: &mut [u8], at: usize, s: &[u8]) -> usize
     requires { ⌜ at + length (now s) ≤ length (now out) ⌝ }
     ensures { λ end. ⌜ Written (now (out .entry)) at (now (s .entry)) (now (out .exit)) end ⌝ }
 {

@@ -8,7 +8,7 @@ use native.Mathlib.Omega.{arith}
 use lib.ListN.{length, drop, length-drop}
 use Rattle.answer.specs.declared.Answer.{Answer}
 use Rattle.command.specs.Command.{commandOf, sizeAt, isLast}
-use Rattle.command.proofs.Sizes.{passes}
+use Rattle.command.proofs.Sizes.{size-bounds}
 use Rattle.machine.specs.declared.Machine.{Machine}
 use Rattle.transcript.specs.Session.{execute, answersFrom}
 
@@ -27,7 +27,7 @@ one-more (suc k) s r h =
         → cond b [] (answersFrom k (drop (sizeAt s) s) (execute (commandOf s) r .machine))
         ≡ cond b [] (answersFrom (suc k) (drop (sizeAt s) s) (execute (commandOf s) r .machine))
     go true e rest = refl
-    go false e rest = rest (omega (arith, passes s e .0, passes s e .1, length-drop (sizeAt s) s))
+    go false e rest = rest (omega (arith, size-bounds s e .0, size-bounds s e .1, length-drop (sizeAt s) s))
 
 -- a session of n bytes has the same answers with every bound above n
 pub fuel-enough : (j : ℕ) (s : List ℕ) (r : Machine) → answersFrom (suc (length s) + j) s r ≡ answersFrom (suc (length s)) s r

@@ -1,9 +1,11 @@
 -- What is proved of sessions.
+pub mod Ran
 pub mod Worked
 pub mod Running
+pub mod Turn
 pub mod Whole
 pub mod Fuel
 pub mod Lines
 pub mod Refusal10
-pub mod Within
+pub mod Bounded
 pub mod Reached

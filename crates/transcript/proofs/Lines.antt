@@ -32,8 +32,8 @@ none-append : (a b : List ℕ) → lineEnds a ≡ 0 → lineEnds b ≡ 0 → lin
 none-append a b p q = omega (arith, ends-append a b)
 
 -- a digit is no line end
-no-end : (c d : ℕ) → 10 < c → lineEnd (c + d) ≡ 0
-no-end c d h = rw (ne-eqb (c + d) 10 (omega arith))
+no-line-end : (c d : ℕ) → 10 < c → lineEnd (c + d) ≡ 0
+no-line-end c d h = rw (ne-eqb (c + d) 10 (omega arith))
 
 none-decimal-digits : (k n : ℕ) → lineEnds (decimalDigits k n) ≡ 0
 none-decimal-digits zero n = refl
@@ -42,9 +42,9 @@ none-decimal-digits (suc k) n = go (ltb n 10) (none-decimal-digits k (n / 10))
     go :
         (b : Bool) → lineEnds (decimalDigits k (n / 10)) ≡ 0
         → lineEnds (cond b ((48 + n) ∷ []) (decimalDigits k (n / 10) ++ ((48 + n % 10) ∷ []))) ≡ 0
-    go true p = omega (arith, no-end 48 n (omega arith))
+    go true p = omega (arith, no-line-end 48 n (omega arith))
     go false p =
-        none-append (decimalDigits k (n / 10)) ((48 + n % 10) ∷ []) p (omega (arith, no-end 48 (n % 10) (omega arith)))
+        none-append (decimalDigits k (n / 10)) ((48 + n % 10) ∷ []) p (omega (arith, no-line-end 48 (n % 10) (omega arith)))
 
 none-decimal : (n : ℕ) → lineEnds (decimal n) ≡ 0
 unfolding decimal
@@ -58,8 +58,8 @@ none-hex (suc k) x = go (ltb (x / 2 ^ (4 * k) % 16) 10) (none-hex k x)
     go :
         (b : Bool) → lineEnds (hex k x) ≡ 0
         → lineEnd (cond b (48 + x / 2 ^ (4 * k) % 16) (55 + x / 2 ^ (4 * k) % 16)) + lineEnds (hex k x) ≡ 0
-    go true p = omega (arith, no-end 48 (x / 2 ^ (4 * k) % 16) (omega arith))
-    go false p = omega (arith, no-end 55 (x / 2 ^ (4 * k) % 16) (omega arith))
+    go true p = omega (arith, no-line-end 48 (x / 2 ^ (4 * k) % 16) (omega arith))
+    go false p = omega (arith, no-line-end 55 (x / 2 ^ (4 * k) % 16) (omega arith))
 
 -- the text of an answer has none
 none-text : (a : Answer) → lineEnds (textOf a) ≡ 0

@@ -16,15 +16,15 @@ use Rattle.machine.specs.Machine.{fresh}
 use Rattle.state.specs.State.{viewOf, tooLarge}
 use Rattle.transcript.specs.Session.{execute, answersFrom, answersOf}
 use Rattle.transcript.proofs.Refusal10.{isRefusal10}
-use Rattle.transcript.proofs.Within.{
-  Within,
-  says-within,
-  set-within,
-  level-within,
-  step-within,
-  read-within,
-  write-within,
-  tick-within,
+use Rattle.transcript.proofs.Bounded.{
+  Bounded,
+  says-bounded,
+  set-bounded,
+  level-bounded,
+  step-bounded,
+  read-bounded,
+  write-bounded,
+  tick-bounded,
 }
 
 -- P holds of every answer
@@ -39,37 +39,37 @@ NotRefusal10 a = a ≡ Answer.Refused FieldTooLarge → ⊥
 not-refusal-10 : (a : Answer) → isRefusal10 a ≡ false → NotRefusal10 a
 not-refusal-10 a t e = let z : _≡_ {A = ℕ} 0 1 = cc (ap isRefusal10 e) in omega arith
 
--- given a record without, the command that the bytes begin with is not answered by refusal 10, and leaves one
-front-within : (s : List ℕ) (r : Machine) → tooLarge (viewOf r) ≡ false → Within (execute (commandOf s) r)
+-- the command that the bytes begin with
+front-bounded : (s : List ℕ) (r : Machine) → tooLarge (viewOf r) ≡ false → Bounded (execute (commandOf s) r)
 unfolding execute commandOf
-front-within [] r b = says-within (Answer.Refused Truncated) r refl b
-front-within (c ∷ s) r b =
+front-bounded [] r b = says-bounded (Answer.Refused Truncated) r refl b
+front-bounded (c ∷ s) r b =
     search (
-      either (λ c. Within (execute c r)),
-      either Within,
-      says-within,
-      set-within,
-      level-within,
-      step-within,
-      read-within,
-      write-within,
-      tick-within,
+      either (λ c. Bounded (execute c r)),
+      either Bounded,
+      says-bounded,
+      set-bounded,
+      level-bounded,
+      step-bounded,
+      read-bounded,
+      write-bounded,
+      tick-bounded,
     ) depth 12
 
--- the answers from such a record on
-answers-within : (k : ℕ) (s : List ℕ) (r : Machine) → tooLarge (viewOf r) ≡ false → all NotRefusal10 (answersFrom k s r)
+-- the answers from a record on that does not meet refusal 10
+answers-bounded : (k : ℕ) (s : List ℕ) (r : Machine) → tooLarge (viewOf r) ≡ false → all NotRefusal10 (answersFrom k s r)
 unfolding answersFrom
-answers-within zero s r b = tt
-answers-within (suc k) s r b =
-    let w = front-within s r b in
+answers-bounded zero s r b = tt
+answers-bounded (suc k) s r b =
+    let w = front-bounded s r b in
     let next = drop (sizeAt s) s in
     let after = execute (commandOf s) r .machine in (
       not-refusal-10 (execute (commandOf s) r .answer) (w .answer),
       either (all NotRefusal10) (isLast (commandOf s)) [] (answersFrom k next after) tt
-          (λ e. answers-within k next after (w .machine)),
+          (λ e. answers-bounded k next after (w .machine)),
     )
 
 -- whatever the bytes, no answer is refusal 10
 pub never-refusal-10 : (s : List ℕ) → all NotRefusal10 (answersOf s)
 unfolding answersOf tooLarge viewOf largest
-never-refusal-10 s = answers-within (suc (length s)) s fresh refl
+never-refusal-10 s = answers-bounded (suc (length s)) s fresh refl

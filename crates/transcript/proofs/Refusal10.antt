@@ -48,25 +48,25 @@ abbrev Spares : Machine → Decision → Type 0
 Spares r d = isRefusal10 (apply d r .answer) ≡ false
 
 module _ (r : Machine) where
-  unless-stopped : (w : ℕ) (s : Stop) (d : Decision) → Spares r d → Spares r (unlessStopped w s d)
+  stopped-spares : (w : ℕ) (s : Stop) (d : Decision) → Spares r d → Spares r (unlessStopped w s d)
   unfolding apply
-  unless-stopped w Stop.Pass d p = p
-  unless-stopped w Stop.Undef d p = refl
-  unless-stopped w (Stop.Trap l) d p = refl
+  stopped-spares w Stop.Pass d p = p
+  stopped-spares w Stop.Undef d p = refl
+  stopped-spares w (Stop.Trap l) d p = refl
 
   register-spares : (v : View) (g : Register) (i : Instruction) (x : ℕ) → Spares r (decideRegister v g i x)
   unfolding apply decideRegister placeAccess
-  register-spares v (Pmevcntr m) i x = search (either (Spares r), unless-stopped)
-  register-spares v Pmswinc i x = search (either (Spares r), unless-stopped)
-  register-spares v Pmicntr i x = search (either (Spares r), unless-stopped)
+  register-spares v (Pmevcntr m) i x = search (either (Spares r), stopped-spares)
+  register-spares v Pmswinc i x = search (either (Spares r), stopped-spares)
+  register-spares v Pmicntr i x = search (either (Spares r), stopped-spares)
   register-spares v Other i x = refl
 
-  unless-refused : (v : Verdict) (d : Decision) → Passes v → Spares r d → Spares r (unlessRefused v d)
+  refused-spares : (v : Verdict) (d : Decision) → Passes v → Spares r d → Spares r (unlessRefused v d)
   unfolding Passes apply
-  unless-refused Consistent d p q = q
-  unless-refused (Refused n) d p q = p
+  refused-spares Consistent d p q = q
+  refused-spares (Refused n) d p q = p
 
   pub step-spares : (w x : ℕ) → tooLarge (viewOf r) ≡ false → isRefusal10 (step w x r .answer) ≡ false
   unfolding decide step
   step-spares w x b =
-      unless-refused _ _ (verdict-passes (viewOf r) b) (register-spares (viewOf r) (decode w .register) (decode w) x)
+      refused-spares _ _ (verdict-passes (viewOf r) b) (register-spares (viewOf r) (decode w .register) (decode w) x)

@@ -44,9 +44,9 @@ module _ (s out : List ℕ) where
   )
 
   -- the bytes that are said to hold the output are bytes of the buffer
-  pub bytes-fit : (out′ : List ℕ) (k : ℕ) → Output.Bytes k ≡ resultOf s out → out′ ≡ bufferOf s out → k ≤ length out′
+  pub bytes-fit : {out′ : List ℕ} {k : ℕ} → Output.Bytes k ≡ resultOf s out → out′ ≡ bufferOf s out → k ≤ length out′
   unfolding resultOf bufferOf
-  bytes-fit out′ k r b = go (ltb (length out) room) r b
+  bytes-fit {out′} {k} r b = go (ltb (length out) room) r b
     where
       go :
           (c : Bool)

@@ -4,18 +4,21 @@ use Prim.Native.String.{String}
 use mathlib.Core.List.{List, [], _∷_, _++_}
 use lib.ListN.{replicate}
 
--- v:n, "8-byte values written as v:n"
+-- the low k bytes of n, little-endian
 abbrev pub littleBytes : ℕ → ℕ → List ℕ
 littleBytes zero n = []
 littleBytes (suc k) n = n % 256 ∷ littleBytes k (n / 256)
 
+-- v:n, "8-byte values written as v:n"
 abbrev pub v : ℕ → List ℕ
 v n = littleBytes 8 n
 
+-- a session's bytes, and its whole output
 pub record Example : Type 0 where
   pub input : List ℕ
   pub output : String
 
+-- the sessions that are computed
 unfoldable pub examples : List Example
 examples =
     -- the worked session
@@ -37,5 +40,8 @@ examples =
     ∷ record { input = replicate 4096 0x00; output = "1 end\n" }
     -- refusals 1 and 2 end the reading, 3, 4 and 5 do not
     ∷ record { input = 0x07 ∷ 0x00 ∷ []; output = "1 refused 1\n" }
-    ∷ record { input = 0x02 ∷ 0x04 ∷ 0x06 ∷ 0x02 ∷ (0x01 ∷ 0x0D ∷ v 0) ++ (0x01 ∷ []); output = "1 refused 5\n2 refused 4\n3 refused 3\n4 refused 2\n" }
+    ∷ record {
+      input = 0x02 ∷ 0x04 ∷ 0x06 ∷ 0x02 ∷ (0x01 ∷ 0x0D ∷ v 0) ++ (0x01 ∷ []);
+      output = "1 refused 5\n2 refused 4\n3 refused 3\n4 refused 2\n";
+    }
     ∷ []

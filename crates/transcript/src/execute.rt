@@ -1,5 +1,7 @@
-// One command run on the record.
+// A command other than an access, run on the record.
+ghost use mathlib.Core.Bool.{false};
 ghost use mathlib.Core.Path.{_≡_};
+ghost use Rattle.command.specs.Command.{isAccess};
 ghost use Rattle.transcript.specs.Session.{execute};
 use answer::Answer;
 use answer::Refusal;
@@ -7,8 +9,8 @@ use command::Command;
 use machine::Machine;
 use machine::Outcome;
 
-// A tick, refused with 4 where its flag exceeds 1.
-fn tick(p: u8, r: Machine) -> Outcome
+// A tick command: a tick, or refused with 4 where its flag exceeds 1.
+fn tick_command(p: u8, r: Machine) -> Outcome
     ensures { λ o. ⌜ o ≡ execute (Command.Tick p) r ⌝ }
 {
     if 1 < p {
@@ -20,23 +22,23 @@ fn tick(p: u8, r: Machine) -> Outcome
     external::tick(p == 1, r)
 }
 
-// What a command answers and does to the record.
-pub fn execute(c: Command, r: Machine) -> Outcome
+// What a command other than an access answers and does to the record.
+pub fn other(c: Command, r: Machine) -> Outcome
+    requires { ⌜ isAccess c ≡ false ⌝ }
     ensures { λ o. ⌜ o ≡ execute c r ⌝ }
 {
     match c {
-        Command::End => Outcome {
-            answer: Answer::End,
-            machine: r,
-        },
         Command::Set { field, value } => fields::set::set(field, value, r),
         Command::Level { level } => fields::set::set_level(level, r),
-        Command::Access { word, operand } => access::step(word, operand, r),
         Command::Read { offset } => external::read(offset, r),
         Command::Write { offset, value } => external::write(offset, value, r),
-        Command::Tick { prohibited } => tick(prohibited, r),
+        Command::Tick { prohibited } => tick_command(prohibited, r),
         Command::Bad(n) => Outcome {
             answer: Answer::Refused(n),
+            machine: r,
+        },
+        _ => Outcome {
+            answer: Answer::End,
             machine: r,
         },
     }

@@ -1,5 +1,5 @@
 // The whole session: commands out of bytes, each run on the record, its answer as a line.
-pub mod execute; // execute.rt: one command run on the record
+mod execute; // execute.rt: a command other than an access, run on the record
 
 ghost use mathlib.Core.Path.{_≡_};
 ghost use Prim.Native.Nat.{_≤_};
@@ -8,14 +8,17 @@ ghost use Rattle.text.specs.Written.{Written};
 ghost use Rattle.transcript.specs.Session.{linesFrom, longest, answersOf, room, resultOf, bufferOf};
 use answer::Answer;
 use answer::Refusal;
+use command::Command;
 
 // The bytes that any session's output fits into: `room` of specs/Session.antt.
 pub const ROOM: usize = 65600;
 
-// The lines of a session that is not too long, from the fresh record on.
-fn run(input: &[u8], out: &mut [u8]) -> usize
+// Writes the lines of a session that is not too long, from the fresh record on. The record is one local: an access has its counters
+// lent, and every other command takes and returns it by value.
+fn write_lines(input: &[u8], out: &mut [u8]) -> usize
     requires { ⌜ (length (now input) ≤ longest) × (room ≤ length (now out)) ⌝ }
-    ensures { λ end. ⌜ Written (now (out .entry)) 0 (linesFrom 1 (answersOf (now (input .entry)))) (now (out .exit)) end × (end ≤ length (now (out .entry))) ⌝ }
+    ensures { λ end. ⌜ Written (now (out .entry)) 0 (linesFrom 1 (answersOf (now (input .entry)))) (now (out .exit)) end
+        × (end ≤ length (now (out .entry))) ⌝ }
 {
     let mut m = machine::fresh::fresh();
     let mut at: usize = 0;
@@ -24,14 +27,38 @@ fn run(input: &[u8], out: &mut [u8]) -> usize
     loop {
         let c = command::command_of(&input[at..]);
         let size = command::reading::size_at(&input[at..]);
-        let o = execute::execute(c, m);
-        let a = o.answer;
+        let mut a = Answer::End;
+        match c {
+            Command::Access { word, operand } => {
+                let events = m.events;
+                let settings = m.settings;
+                let level = m.level;
+                let instructions = m.instructions;
+                let said = access::lent(
+                    &mut m.counters,
+                    &events,
+                    settings,
+                    level,
+                    instructions,
+                    word,
+                    operand,
+                );
+                m.instructions = said.instructions;
+                let answer = said.answer;
+                a = answer;
+            }
+            _ => {
+                let o = execute::other(c, m);
+                let next = o.machine;
+                m = next;
+                let answer = o.answer;
+                a = answer;
+            }
+        }
         end = line::line(out, end, position, a);
         if command::reading::is_last(c) {
             return end;
         }
-        let next = o.machine;
-        m = next;
         at += size;
         position += 1;
     }
@@ -46,7 +73,8 @@ pub enum Output {
 
 // Runs a session's bytes from the fresh record, and writes its lines to the front of the buffer.
 pub fn session(input: &[u8], out: &mut [u8]) -> Output
-    ensures { λ r. ⌜ (r ≡ resultOf (now (input .entry)) (now (out .entry))) × (now (out .exit) ≡ bufferOf (now (input .entry)) (now (out .entry))) ⌝ }
+    ensures { λ r. ⌜ (r ≡ resultOf (now (input .entry)) (now (out .entry)))
+        × (now (out .exit) ≡ bufferOf (now (input .entry)) (now (out .entry))) ⌝ }
 {
     if out.len() < ROOM {
         return Output::Short;
@@ -54,5 +82,5 @@ pub fn session(input: &[u8], out: &mut [u8]) -> Output
     if 4096 < input.len() {
         return Output::Bytes(line::line(out, 0, 0, Answer::Refused(Refusal::SessionTooLong)));
     }
-    Output::Bytes(run(input, out))
+    Output::Bytes(write_lines(input, out))
 }

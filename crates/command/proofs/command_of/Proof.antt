@@ -26,7 +26,8 @@ returns-4 c =
     let at-operand-bytes = c .before .before in
     let at-start = at-operand-bytes .before .before .before .before .before in
     c .command-with .ensures
-    ∙ sym (front-whole (at-start .args .t .now) (omega arith) (omega arith) (omega (arith, at-operand-bytes .operand-bytes .ensures)))
+    ∙ sym
+    (front-whole (at-start .args .t .now) (omega arith) (omega arith) (omega (arith, at-operand-bytes .operand-bytes .ensures)))
 
 pub command-of-spec : {M : Type 1} → statement M
 command-of-spec =

@@ -5,56 +5,29 @@ use Rattle.transcript.proofs.Whole.{bytes-fit}
 use borrow.Author.Needs.{needs}
 use Rattle.console.proofs.print.Statement.{statement}
 use Rattle.console.proofs.print.Tie as tie
-use Rattle.console.proofs.print.Reads as reads
-use Rattle.console.proofs.print.Lts as lts
-use Rattle.io.proofs.write_all.Reads as write-all-reads
-use Rattle.transcript.proofs.session.Reads as session-reads
 
--- src/lib.rt:7:38
-slice-aggregate-session : tie.Need-slice-aggregate-session
-slice-aggregate-session c = search needs
-
--- src/lib.rt:7:11
-session-requires : tie.Need-session-requires
-session-requires c κs = search needs
-
--- src/lib.rt:8:23
-enum-known-k : tie.Need-enum-known-k
-enum-known-k c = search needs
-
--- src/lib.rt:9:48
 array-share-prefix-out : tie.Need-array-share-prefix-out
-array-share-prefix-out c = bytes-fit _ _ (c .before .before .before .before .session .last .1 .0) (c .before .k .given .0 .0) (sym (c .before .k .given .1) ∙ c .before .before .before .before .session .ensures .0) (c .before .before .before .before .session .ensures .1)
+array-share-prefix-out c =
+    let at-session = c .before .before .before .before in
+    bytes-fit _ _ (sym (c .before .k .given .1) ∙ at-session .session .ensures .0) (at-session .session .ensures .1)
 
--- src/lib.rt:9:48
 slice-aggregate-write-all : tie.Need-slice-aggregate-write-all
-slice-aggregate-write-all c = sym (length-take-le (c .before .before .k .given .0 .0) (c .before .before .before .before .before .session .last .1 .0) (bytes-fit _ _ (c .before .before .before .before .before .session .last .1 .0) (c .before .before .k .given .0 .0) (sym (c .before .before .k .given .1) ∙ c .before .before .before .before .before .session .ensures .0) (c .before .before .before .before .before .session .ensures .1)))
-
--- src/lib.rt:9:13
-write-all-requires : tie.Need-write-all-requires
-write-all-requires c κs = search needs
-
-enum-told : tie.Need-enum-told
-enum-told c = search needs
-
--- src/lib.rt:5:1
-returns : tie.Need-returns
-returns c = search needs
-
--- src/lib.rt:5:1
-returns-2 : tie.Need-returns-2
-returns-2 c = search needs
+slice-aggregate-write-all c =
+    let at-k = c .before .before in
+    let at-session = at-k .before .before .before in
+    let fit = bytes-fit _ _ (sym (at-k .k .given .1) ∙ at-session .session .ensures .0) (at-session .session .ensures .1) in
+    sym (length-take-le (at-k .k .given .0 .0) (at-session .session .last .1 .0) fit)
 
 pub print-spec : {M : Type 1} → statement M
 print-spec =
     tie.close
     (tie.spec
-    slice-aggregate-session
-    session-requires
-    enum-known-k
+    (λ c. search needs)
+    (λ c κs. search needs)
+    (λ c. search needs)
     array-share-prefix-out
     slice-aggregate-write-all
-    write-all-requires
-    enum-told
-    returns
-    returns-2)
+    (λ c κs. search needs)
+    (λ c. search needs)
+    (λ c. search needs)
+    (λ c. search needs))

@@ -1,24 +1,49 @@
 -- `line::mrs` meets its contract.
 use native.Mathlib.Omega.{arith}
 use Rattle.line.specs.Line.{textOf}
-use Rattle.text.proofs.Digits.{decimal-shorter, length-hex}
+use Rattle.text.proofs.Digits.{decimal-length, length-hex}
 use Rattle.text.proofs.Sets.{written-on}
 use borrow.Author.Needs.{needs}
 use Rattle.line.proofs.mrs.Statement.{statement}
 use Rattle.line.proofs.mrs.Tie as tie
 
-hex-requires : tie.Need-hex-requires
-hex-requires c κs = omega (arith, c .before .before .before .word .ensures .behind, c .before .before .before .word .kept .0, c .before .before .before .before .before .before .before .pre)
-
-word-requires-2 : tie.Need-word-requires-2
-word-requires-2 c κs = omega (arith, c .before .before .before .before .before .before .before .before .word .ensures .behind, c .before .before .before .before .before .before .before .before .word .kept .0, c .before .before .before .before .hex .ensures .behind, c .before .before .before .before .hex .kept .0, length-hex 16 (c .before .before .before .before .before .before .before .before .before .before .before .before .args .x), c .before .before .before .before .before .before .before .before .before .before .before .before .pre)
+bytes-requires-2 : tie.Need-bytes-requires-2
+bytes-requires-2 c κs =
+    let at-hex = c .before .before .before .before in
+    let at-bytes = at-hex .before .before .before .before in
+    let at-start = at-bytes .before .before .before .before in
+    omega (arith, at-bytes .bytes, at-hex .hex, length-hex 16 (at-start .args .x), at-start .pre)
 
 decimal-requires : tie.Need-decimal-requires
-decimal-requires c κs = omega (arith, c .before .before .before .before .before .before .before .before .before .before .before .before .before .word .ensures .behind, c .before .before .before .before .before .before .before .before .before .before .before .before .before .word .kept .0, c .before .before .before .before .before .before .before .before .before .hex .ensures .behind, c .before .before .before .before .before .before .before .before .before .hex .kept .0, length-hex 16 (c .before .before .before .before .before .before .before .before .before .before .before .before .before .before .before .before .before .args .x), c .before .before .before .before .word2 .ensures .behind, c .before .before .before .before .word2 .kept .0, c .wide .ensures, c .wide .ok, c .before .before .before .before .before .before .before .before .before .before .before .before .before .before .before .before .before .fits .rt, c .before .before .before .before .before .before .before .before .before .before .before .before .before .before .before .before .before .pre)
+decimal-requires c κs =
+    let at-bytes2 = c .before .before .before in
+    let at-hex = at-bytes2 .before .before .before .before .before in
+    let at-bytes = at-hex .before .before .before .before in
+    let at-start = at-bytes .before .before .before .before in
+    omega (
+      arith,
+      at-bytes .bytes,
+      at-hex .hex,
+      at-bytes2 .bytes2,
+      length-hex 16 (at-start .args .x),
+      at-start .fits .rt,
+      at-start .pre,
+    )
 
 returns : tie.Need-returns
 unfolding textOf
-returns c = (written-on (written-on (written-on (c .before .before .before .before .before .before .before .before .before .before .before .before .before .before .before .before .word .ensures) (c .before .before .before .before .before .before .before .before .before .before .before .before .hex .ensures)) (c .before .before .before .before .before .before .before .word2 .ensures)) (simp (c .before .before .before .wide .ensures) at (c .before .before .decimal .ensures)), omega (arith, c .before .before .before .before .before .before .before .before .before .before .before .before .before .before .before .before .word .ensures .behind, c .before .before .before .before .before .before .before .before .before .before .before .before .before .before .before .before .word .kept .0, c .before .before .before .before .before .before .before .before .before .before .before .before .hex .ensures .behind, c .before .before .before .before .before .before .before .before .before .before .before .before .hex .kept .0, length-hex 16 (c .before .before .before .before .before .before .before .before .before .before .before .before .before .before .before .before .before .before .before .before .args .x), c .before .before .before .before .before .before .before .word2 .ensures .behind, c .before .before .before .before .before .before .before .word2 .kept .0, c .before .before .decimal .ensures .behind, decimal-shorter (c .before .before .before .wide .result) (omega (arith, c .before .before .before .wide .ensures, c .before .before .before .before .before .before .before .before .before .before .before .before .before .before .before .before .before .before .before .before .fits .rt))))
+returns c =
+    let at-decimal = c .before .before in
+    let at-bytes2 = at-decimal .before .before .before .before in
+    let at-hex = at-bytes2 .before .before .before .before .before in
+    let at-bytes = at-hex .before .before .before .before in
+    let at-start = at-bytes .before .before .before .before in
+    let number = decimal-length 2 (at-start .args .rt) (omega (arith, at-start .fits .rt)) in
+    let digits = length-hex 16 (at-start .args .x) in
+    let front = written-on (at-bytes .bytes .ensures) (at-hex .hex .ensures) in (
+      written-on (written-on front (at-bytes2 .bytes2 .ensures)) (at-decimal .decimal .ensures),
+      omega (arith, at-bytes .bytes, at-hex .hex, at-bytes2 .bytes2, at-decimal .decimal, number, digits),
+    )
 
 pub mrs-spec : {M : Type 1} → statement M
 mrs-spec =
@@ -26,10 +51,9 @@ mrs-spec =
     (tie.spec
     (λ c. search needs)
     (λ c κs. search needs)
-    hex-requires
-    (λ c. search needs)
-    word-requires-2
     (λ c κs. search needs)
+    (λ c. search needs)
+    bytes-requires-2
     decimal-requires
     (λ c. search needs)
     returns)

@@ -7,13 +7,16 @@ use borrow.Author.Needs.{needs}
 use Rattle.line.proofs.value.Statement.{statement}
 use Rattle.line.proofs.value.Tie as tie
 
-hex-requires : tie.Need-hex-requires
-hex-requires c κs = omega (arith, c .before .before .before .word .ensures .behind, c .before .before .before .word .kept .0, c .before .before .before .before .before .before .before .pre)
-
 returns : tie.Need-returns
 unfolding textOf
-returns c = (written-on (c .before .before .before .before .before .before .word .ensures) (c .before .before .hex .ensures), omega (arith, c .before .before .before .before .before .before .word .ensures .behind, c .before .before .before .before .before .before .word .kept .0, c .before .before .hex .ensures .behind, length-hex 16 (c .before .before .before .before .before .before .before .before .before .before .args .x)))
+returns c =
+    let at-hex = c .before .before in
+    let at-bytes = at-hex .before .before .before .before in
+    let at-start = at-bytes .before .before .before .before in (
+      written-on (at-bytes .bytes .ensures) (at-hex .hex .ensures),
+      omega (arith, at-bytes .bytes, at-hex .hex, length-hex 16 (at-start .args .x)),
+    )
 
 pub value-spec : {M : Type 1} → statement M
 value-spec =
-    tie.close (tie.spec (λ c. search needs) (λ c κs. search needs) hex-requires (λ c. search needs) returns)
+    tie.close (tie.spec (λ c. search needs) (λ c κs. search needs) (λ c κs. search needs) (λ c. search needs) returns)

@@ -1,5 +1,4 @@
 -- `decimal` meets its contract: one law for each number of digits.
-use Prim.Native.Nat.{_+_, _/_, _%_}
 use Rattle.text.proofs.Sets.{one-byte, two-bytes, three-bytes, four-bytes}
 use native.Mathlib.Omega.{arith}
 use lib.ListN.{length-set}
@@ -9,13 +8,15 @@ use Rattle.text.proofs.decimal.Statement.{statement}
 use Rattle.text.proofs.decimal.Tie as tie
 
 returns : tie.Need-returns
-returns c = rw (decimal-1 (c .before .args .n) (c .if1 .taken)) (one-byte (c .before .args .out .now) (c .before .args .at) (48 + c .before .args .n) 0 0 0)
+returns c = rw (decimal-1 (c .before .args .n) (c .if1 .taken)) one-byte
 
 slice-write-out-3 : tie.Need-slice-write-out-3
 slice-write-out-3 c = simp length-set (omega arith)
 
 returns-2 : tie.Need-returns-2
-returns-2 c = rw (decimal-2 (c .before .before .args .n) (c .before .if1 .left) (c .if2 .taken)) (two-bytes (c .before .before .args .out .now) (c .before .before .args .at) (48 + c .before .before .args .n / 10) (48 + c .before .before .args .n % 10) 0 0)
+returns-2 c =
+    let at-start = c .before .before in
+    rw (decimal-2 (at-start .args .n) (c .before .if1 .left) (c .if2 .taken)) two-bytes
 
 slice-write-out-5 : tie.Need-slice-write-out-5
 slice-write-out-5 c = simp length-set (omega arith)
@@ -24,7 +25,9 @@ slice-write-out-6 : tie.Need-slice-write-out-6
 slice-write-out-6 c = simp length-set (omega arith)
 
 returns-3 : tie.Need-returns-3
-returns-3 c = rw (decimal-3 (c .before .before .before .args .n) (c .before .if2 .left) (c .if3 .taken)) (three-bytes (c .before .before .before .args .out .now) (c .before .before .before .args .at) (48 + c .before .before .before .args .n / 10 / 10) (48 + c .before .before .before .args .n / 10 % 10) (48 + c .before .before .before .args .n % 10) 0)
+returns-3 c =
+    let at-start = c .before .before .before in
+    rw (decimal-3 (at-start .args .n) (c .before .if2 .left) (c .if3 .taken)) three-bytes
 
 slice-write-out-8 : tie.Need-slice-write-out-8
 slice-write-out-8 c = simp length-set (omega arith)
@@ -36,7 +39,9 @@ slice-write-out-10 : tie.Need-slice-write-out-10
 slice-write-out-10 c = simp length-set (omega arith)
 
 returns-4 : tie.Need-returns-4
-returns-4 c = rw (decimal-4 (c .before .before .before .args .n) (c .if3 .left) (c .before .before .before .pre .0)) (four-bytes (c .before .before .before .args .out .now) (c .before .before .before .args .at) (48 + c .before .before .before .args .n / 10 / 10 / 10) (48 + c .before .before .before .args .n / 10 / 10 % 10) (48 + c .before .before .before .args .n / 10 % 10) (48 + c .before .before .before .args .n % 10))
+returns-4 c =
+    let at-start = c .before .before .before in
+    rw (decimal-4 (at-start .args .n) (c .if3 .left) (at-start .pre .0)) four-bytes
 
 pub decimal-spec : {M : Type 1} → statement M
 decimal-spec =

@@ -1,12 +1,11 @@
 -- `hex` meets its contract: what is stored and the digits that are left are the whole number.
-use Prim.Native.Nat.{_+_, _-_, _≤_}
-use mathlib.Core.Path.{_≡_, refl, sym, _∙_, ap}
+use Prim.Native.Nat.{_+_, _≤_}
+use mathlib.Core.Path.{_≡_, refl, sym, _∙_}
 use native.Mathlib.Omega.{arith}
-use native.Mathlib.Numerals.{add-one}
-use lib.ListN.{length, set, length-set}
+use lib.ListN.{length, length-set}
 use lib.Seq.{sets}
 use Rattle.text.specs.Text.{hex}
-use Rattle.text.proofs.Digits.{length-hex, hex-turn}
+use Rattle.text.proofs.Digits.{length-hex, hex-turn, hex-done}
 use Rattle.text.proofs.hex.Statement.{statement}
 use Rattle.text.proofs.hex.Tie as tie
 
@@ -42,21 +41,29 @@ loop-less : tie.Need-loop-less Inv-loop μ-loop
 loop-less c = omega arith
 
 loop-again : tie.Need-loop-again Inv-loop μ-loop
-loop-again c = (
-  omega arith,
-  omega arith,
-  simp length-set (c .before .before .loop .inv .2),
-  c .before .before .loop .inv .3 ∙ ap (sets (c .before .before .loop .out) (c .before .before .loop .next)) (hex-turn (c .before .before .loop .left) (c .before .before .before .before .args .x) (c .before .loop-test .taken)) ∙ (λ i. sets (set (c .before .before .loop .out) (c .before .before .loop .next) (sym (c .hex-digit .ensures) i)) (sym (add-one (c .before .before .loop .next)) i) (hex (c .before .before .loop .left - 1) (c .before .before .before .before .args .x))),
-)
+loop-again c =
+    let at-loop = c .before .before in
+    let at-start = at-loop .before .before in (
+      omega arith,
+      omega arith,
+      simp length-set (at-loop .loop .inv .2),
+      at-loop .loop .inv .3
+          ∙ hex-turn (at-loop .loop .out) (at-loop .loop .next) (at-loop .loop .left) (at-start .args .x)
+          (c .before .loop-test .taken) (c .hex-digit .ensures),
+    )
 
 same-length : tie.Need-same-length Inv-loop μ-loop
 same-length c = c .before .loop .inv .2
 
 returns : tie.Need-returns Inv-loop μ-loop
-unfolding hex
 returns c =
-    let e : c .before .loop .left ≡ 0 = omega (arith, c .loop-test .left) in
-    record { stored = sym (c .before .loop .inv .3 ∙ ap (λ k. sets (c .before .loop .out) (c .before .loop .next) (hex k (c .before .before .before .args .x))) e); behind = omega (arith, length-hex (c .before .before .before .args .k) (c .before .before .before .args .x)) }
+    let at-loop = c .before in
+    let at-start = at-loop .before .before in
+    let done =
+    hex-done (at-loop .loop .out) (at-loop .loop .next) (at-loop .loop .left) (at-start .args .x)
+    (omega (arith, c .loop-test .left)) in
+    let size = length-hex (at-start .args .k) (at-start .args .x) in
+    record { stored = sym (at-loop .loop .inv .3 ∙ done); behind = omega (arith, size) }
 
 pub hex-spec : {M : Type 1} → statement M
 hex-spec =

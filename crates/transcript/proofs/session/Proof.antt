@@ -23,13 +23,13 @@ returns-2 c =
 
 returns-3 : tie.Need-returns-3
 returns-3 c =
-    let at-run = c .before .before in
-    let at-if2 = at-run .before .before in
+    let at-write-lines = c .before .before in
+    let at-if2 = at-write-lines .before .before in
     let at-if1 = at-if2 .before in
     let at-start = at-if1 .before .before .before in
     let whole = output-run (at-start .args .input .now) (omega (arith, at-if2 .if2 .left)) in
     enough (at-start .args .input .now) (at-start .args .out .now) (omega (arith, at-if1 .if1 .left))
-    (at-run .run .ensures .0) whole (at-run .run .ensures .1)
+    (at-write-lines .write-lines .ensures .0) whole (at-write-lines .write-lines .ensures .1)
 
 pub session-spec : {M : Type 1} → statement M
 session-spec =

@@ -9,13 +9,19 @@ use Rattle.command.proofs.reading.size_at.Statement.{statement}
 use Rattle.command.proofs.reading.size_at.Tie as tie
 
 returns : tie.Need-returns
-returns c = sym (size-none (c .before .before .args .t .now) (c .if1 .taken))
+returns c =
+    let at-start = c .before .before in
+    sym (size-none (at-start .args .t .now) (c .if1 .taken))
 
 add-result : tie.Need-add-result
-add-result c = omega (arith, c .operand-bytes .ensures, few-operands (getD (c .before .before .before .before .args .t .now) 0 0))
+add-result c =
+    let at-start = c .before .before .before .before in
+    omega (arith, c .operand-bytes .ensures, few-operands (getD (at-start .args .t .now) 0 0))
 
 returns-2 : tie.Need-returns-2
-returns-2 c = ap (λ n. 1 + n) (c .operand-bytes .ensures) ∙ sym (size-some (c .before .before .before .before .args .t .now) (omega arith))
+returns-2 c =
+    let at-start = c .before .before .before .before in
+    ap (λ n. 1 + n) (c .operand-bytes .ensures) ∙ sym (size-some (at-start .args .t .now) (omega arith))
 
 pub size-at-spec : {M : Type 1} → statement M
 size-at-spec =

@@ -1,13 +1,13 @@
--- `word` meets its contract: what is stored and what is left to store is the whole word.
+-- `bytes` meets its contract: what is stored and what is left to store is the whole text.
 use Prim.Native.Nat.{_+_, _-_, _≤_}
 use mathlib.Core.Path.{_≡_, refl, sym, _∙_, ap}
 use native.Mathlib.Nat.{add-zero}
 use native.Mathlib.Omega.{arith}
-use lib.ListN.{length, getD, set, drop, length-set, drop-of-length-le}
+use lib.ListN.{length, drop, length-set}
 use lib.Seq.{sets}
-use Rattle.text.proofs.Sets.{sets-turn}
-use Rattle.text.proofs.word.Statement.{statement}
-use Rattle.text.proofs.word.Tie as tie
+use Rattle.text.proofs.Sets.{sets-turn, sets-done}
+use Rattle.text.proofs.bytes.Statement.{statement}
+use Rattle.text.proofs.bytes.Tie as tie
 
 abbrev Inv-loop : tie.InvT-loop
 Inv-loop out₀ at s i₀ out i =
@@ -17,7 +17,8 @@ abbrev μ-loop : tie.MeasureT-loop
 μ-loop out₀ at s i₀ out i = length s - i
 
 loop-holds : tie.Need-loop-holds Inv-loop μ-loop
-loop-holds c = (omega arith, refl, ap (λ n. sets (c .args .out .now) n (c .args .s .now)) (sym (add-zero (c .args .at))))
+loop-holds c =
+    (omega arith, refl, ap (λ n. sets (c .args .out .now) n (c .args .s .now)) (sym (add-zero (c .args .at))))
 
 shared-slice-read-out : tie.Need-shared-slice-read-out Inv-loop μ-loop
 shared-slice-read-out c = omega arith
@@ -35,7 +36,15 @@ loop-less : tie.Need-loop-less Inv-loop μ-loop
 loop-less c = omega arith
 
 loop-again : tie.Need-loop-again Inv-loop μ-loop
-loop-again c = (omega arith, simp length-set (c .before .before .loop .inv .1), c .before .before .loop .inv .2 ∙ sets-turn (c .before .before .loop .out) (c .before .before .before .args .s .now) (c .before .before .before .args .at + c .before .before .loop .i) (c .before .before .loop .i) (c .before .loop-test .taken) ∙ ap (λ n. sets (set (c .before .before .loop .out) (c .before .before .before .args .at + c .before .before .loop .i) (getD (c .before .before .before .args .s .now) (c .before .before .loop .i) 0)) n (drop (c .before .before .loop .i + 1) (c .before .before .before .args .s .now))) (omega arith))
+loop-again c =
+    let at-loop = c .before .before in
+    let at-start = at-loop .before in (
+      omega arith,
+      simp length-set (at-loop .loop .inv .1),
+      at-loop .loop .inv .2
+          ∙ sets-turn (at-loop .loop .out) (at-start .args .s .now) (at-start .args .at) (at-loop .loop .i)
+          (c .before .loop-test .taken),
+    )
 
 add-result : tie.Need-add-result Inv-loop μ-loop
 add-result c = omega arith
@@ -44,10 +53,16 @@ same-length : tie.Need-same-length Inv-loop μ-loop
 same-length c = c .before .loop .inv .1
 
 returns : tie.Need-returns Inv-loop μ-loop
-returns c = record { stored = sym (c .before .loop .inv .2 ∙ ap (sets (c .before .loop .out) (c .before .before .args .at + c .before .loop .i)) (drop-of-length-le (c .before .before .args .s .now) (c .loop-test .left))); behind = omega arith }
+returns c =
+    let at-loop = c .before in
+    let at-start = at-loop .before in
+    let done =
+    sets-done (at-loop .loop .out) (at-start .args .s .now) (at-start .args .at) (at-loop .loop .i)
+    (c .loop-test .left) in
+    record { stored = sym (at-loop .loop .inv .2 ∙ done); behind = omega arith }
 
-pub word-spec : {M : Type 1} → statement M
-word-spec =
+pub bytes-spec : {M : Type 1} → statement M
+bytes-spec =
     tie.close
     (tie.spec
     Inv-loop

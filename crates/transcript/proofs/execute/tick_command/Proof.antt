@@ -1,10 +1,10 @@
--- `transcript::execute::tick` meets its contract: a case for each branch, by the contracts of what it calls.
+-- `transcript::execute::tick_command` meets its contract: a case for each branch, by the contracts of what it calls.
 use native.Mathlib.Omega.{arith}
 use borrow.Author.Tests.{lt-ltb, le-ltb}
 use Rattle.transcript.specs.Session.{execute}
 use borrow.Author.Needs.{needs}
-use Rattle.transcript.proofs.execute.tick.Statement.{statement}
-use Rattle.transcript.proofs.execute.tick.Tie as tie
+use Rattle.transcript.proofs.execute.tick_command.Statement.{statement}
+use Rattle.transcript.proofs.execute.tick_command.Tie as tie
 
 returns : tie.Need-returns
 unfolding execute
@@ -16,5 +16,5 @@ returns-2 c =
     let at-start = c .before .before in
     simp (le-ltb 1 (at-start .args .p) (omega arith)) (c .tick .ensures)
 
-pub tick-spec : {M : Type 1} → statement M
-tick-spec = tie.close (tie.spec returns (λ c κs. search needs) returns-2)
+pub tick-command-spec : {M : Type 1} → statement M
+tick-command-spec = tie.close (tie.spec returns (λ c κs. search needs) returns-2)

@@ -1,0 +1,144 @@
+-- `transcript::write_lines` meets its contract: its loop keeps the invariant, which at the end says the definition.
+use Prim.Native.Nat.{_-_}
+use mathlib.Core.Logic.{⊎-elim}
+use mathlib.Core.Path.{_≡_, sym, _∙_}
+use native.Mathlib.Omega.{arith}
+use borrow.Author.Needs.{needs}
+use lib.ListN.{length}
+use Rattle.machine.specs.Outcome.{says}
+use Rattle.transcript.specs.Session.{execute}
+use Rattle.transcript.proofs.Ran.{no-access, access-ran, other-ran}
+use Rattle.transcript.proofs.Running.{Running, running-start}
+use Rattle.transcript.proofs.Turn.{turn-end, turn-size, turn-on}
+use Rattle.transcript.proofs.write_lines.Statement.{statement}
+use Rattle.transcript.proofs.write_lines.Tie as tie
+
+abbrev Inv-loop : tie.InvT-loop
+Inv-loop input out₀ m₀ at₀ end₀ position₀ out m at end position = Running input out₀ out m at end position
+
+abbrev μ-loop : tie.MeasureT-loop
+μ-loop input out₀ m₀ at₀ end₀ position₀ out m at end position = length input - at
+
+loop-holds : tie.Need-loop-holds Inv-loop μ-loop
+loop-holds c =
+    let at-start = c .before .before .before in
+    running-start (c .fresh .ensures) (at-start .pre .0) (at-start .pre .1)
+
+sub-command-of : tie.Need-sub-command-of Inv-loop μ-loop
+sub-command-of c = omega (arith, c .loop .inv .within)
+
+part-command-of-start : tie.Need-part-command-of-start Inv-loop μ-loop
+part-command-of-start c = omega (arith, c .loop .inv .within)
+
+part-command-of-end : tie.Need-part-command-of-end Inv-loop μ-loop
+part-command-of-end c = omega (arith, c .loop .inv .within)
+
+sub-size-at : tie.Need-sub-size-at Inv-loop μ-loop
+sub-size-at c = omega (arith, c .before .before .loop .inv .within)
+
+part-size-at-start : tie.Need-part-size-at-start Inv-loop μ-loop
+part-size-at-start c = omega (arith, c .before .before .loop .inv .within)
+
+part-size-at-end : tie.Need-part-size-at-end Inv-loop μ-loop
+part-size-at-end c = omega (arith, c .before .before .loop .inv .within)
+
+other-requires : tie.Need-other-requires Inv-loop μ-loop
+other-requires c κs =
+    let at-command-of = c .before .before .before in
+    no-access (at-command-of .command-of .result) (c .match .keys2)
+
+line-requires : tie.Need-line-requires Inv-loop μ-loop
+line-requires c κs =
+    let at-loop = c .before .before .before .before .before .before in (
+      omega (arith, at-loop .loop .inv .counted, at-loop .loop .inv .within, at-loop .loop .inv .limit),
+      omega (arith, at-loop .loop .inv .spare),
+    )
+
+same-length : tie.Need-same-length Inv-loop μ-loop
+same-length c =
+    let at-line = c .before .before .before .before in
+    let at-loop = at-line .before .before .before .before .before .before .before in
+    at-line .line .kept .0 ∙ at-loop .loop .inv .kept
+
+returns : tie.Need-returns Inv-loop μ-loop
+returns c =
+    let at-line = c .before .before .before .before in
+    let at-match = at-line .before .before in
+    let at-size-at = at-match .before in
+    let at-command-of = at-size-at .before .before in
+    let at-loop = at-command-of .before .before in
+    let same = ⊎-elim {C = at-match .match .c ≡ at-command-of .command-of .result} (λ w. w .9 ∙ sym (w .1 .given .1)) (λ v. v .4) (at-match .match .came) in
+    let ran =
+    ⊎-elim {C = says (at-match .match .a) (at-match .match .m) ≡ execute (at-match .match .c) (at-loop .loop .m)}
+    (λ w. access-ran _ (at-loop .loop .m) _ _ _ _ (w .7 .result) _ (w .9) (w .7 .ensures) (w .10) (w .8))
+    (λ v. other-ran _ (at-loop .loop .m) _ _ _ (v .1 .result) (v .4) (v .1 .ensures) (v .5) (v .3))
+    (at-match .match .came) in (
+      turn-end (at-loop .loop .inv) (same ∙ at-command-of .command-of .ensures) (at-size-at .size-at .ensures) (c .before .is-last .ensures) ran (at-line .line .ensures .0)
+          (c .if1 .taken),
+      omega (arith, at-line .line .ensures .1, at-loop .loop .inv .spare, at-loop .loop .inv .kept),
+    )
+
+loop-again : tie.Need-loop-again Inv-loop μ-loop
+loop-again c =
+    let at-line = c .before .before .before .before in
+    let at-match = at-line .before .before in
+    let at-size-at = at-match .before in
+    let at-command-of = at-size-at .before .before in
+    let at-loop = at-command-of .before .before in
+    let same = ⊎-elim {C = at-match .match .c ≡ at-command-of .command-of .result} (λ w. w .9 ∙ sym (w .1 .given .1)) (λ v. v .4) (at-match .match .came) in
+    let ran =
+    ⊎-elim {C = says (at-match .match .a) (at-match .match .m) ≡ execute (at-match .match .c) (at-loop .loop .m)}
+    (λ w. access-ran _ (at-loop .loop .m) _ _ _ _ (w .7 .result) _ (w .9) (w .7 .ensures) (w .10) (w .8))
+    (λ v. other-ran _ (at-loop .loop .m) _ _ _ (v .1 .result) (v .4) (v .1 .ensures) (v .5) (v .3))
+    (at-match .match .came) in
+    turn-on (at-loop .loop .inv) (same ∙ at-command-of .command-of .ensures) (at-size-at .size-at .ensures) (c .before .is-last .ensures) ran (at-line .line .ensures .0)
+    (at-line .line .ensures .1) (c .if1 .left)
+
+loop-less : tie.Need-loop-less Inv-loop μ-loop
+loop-less c =
+    let at-match = c .before .before .before .before .before .before in
+    let at-size-at = at-match .before in
+    let at-command-of = at-size-at .before .before in
+    let at-loop = at-command-of .before .before in
+    let same = ⊎-elim {C = at-match .match .c ≡ at-command-of .command-of .result} (λ w. w .9 ∙ sym (w .1 .given .1)) (λ v. v .4) (at-match .match .came) in
+    omega (
+      arith,
+      loop-again c .within,
+      turn-size (at-loop .loop .inv) (same ∙ at-command-of .command-of .ensures) (at-size-at .size-at .ensures) (c .before .is-last .ensures) (c .if1 .left),
+    )
+
+add-at : tie.Need-add-at Inv-loop μ-loop
+add-at c = omega (arith, loop-again c .within)
+
+add-position : tie.Need-add-position Inv-loop μ-loop
+add-position c =
+    let at-loop = c .before .before .before .before .before .before .before .before .before .before .before in
+    omega (arith, at-loop .loop .inv .counted, at-loop .loop .inv .within, at-loop .loop .inv .limit)
+
+pub write-lines-spec : {M : Type 1} → statement M
+write-lines-spec =
+    tie.close
+    (tie.spec
+    Inv-loop
+    μ-loop
+    (λ c κs. search needs)
+    loop-holds
+    sub-command-of
+    part-command-of-start
+    part-command-of-end
+    (λ c κs. search needs)
+    sub-size-at
+    part-size-at-start
+    part-size-at-end
+    (λ c κs. search needs)
+    (λ c. search needs)
+    (λ c κs. search needs)
+    other-requires
+    line-requires
+    (λ c κs. search needs)
+    same-length
+    returns
+    add-at
+    add-position
+    loop-less
+    loop-again)
