@@ -17,7 +17,7 @@ use Rattle.answer.proofs.Answer as N′
 use Rattle.machine.specs.declared.Machine.{Machine}
 use Rattle.machine.specs.declared.Settings.{Settings}
 use Rattle.machine.proofs.Machine as M′
-use Rattle.rules.specs.Isolation.{SameExcept, Kept, Named, Isolated, Claim}
+use Rattle.rules.specs.Isolation.{SameExcept, Kept, Named, Start, Isolated, Claim}
 use Rattle.rules.proofs.Isolation.{noninterference}
 use Rattle.rules.specs.Step.{Access, step, access, run}
 use Rattle.access.specs.Calls.{Holds, Obeyed, Reference, MayGive, Calls, none, next, AnsweredAlike, CallsClaim}
@@ -100,7 +100,8 @@ module _ (call : MayGive) (exact : Exact call) where
       }
 
   calls-claim :
-      (top : ℕ) (named : Settings → Named) (when : Settings → Bool) → Claim top named when → CallsClaim call top named when
+      (top : ℕ) (named : Settings → Named) (when : Settings → Bool) → Claim Start top named when
+      → CallsClaim call top named when
   calls-claim top named when claim r₁ r₂ accesses s₁ s₂ w l e after₁ after₂ answers₁ answers₂ c d =
       calls-isolated (claim r₁ r₂ accesses s₁ s₂ w l e) c d
 

@@ -2,3 +2,4 @@
 pub mod Turns
 pub mod Whole
 pub mod Calls
+pub mod LentCalls

@@ -1,27 +1,13 @@
 // The counter enables as PMCNTENSET_EL0 shows and sets them: bits m < N of the event counters, bit 31, and bit 32 with ICNTR.
 ghost use mathlib.Core.Path.{_≡_};
-ghost use mathlib.Core.Bool.{_&&_};
-ghost use lib.Dec.{ltb};
-ghost use Rattle.bits.specs.Bits.{bit};
-ghost use Rattle.bits.specs.Bits.{fromBits};
 ghost use Rattle.rules.specs.External.{shownOf, enablesWritten};
 use machine::Settings;
-
-// The bits of x of the event counters below n.
-fn low_bits(n: u64, x: u64) -> u64
-    ensures { λ r. ⌜ r ≡ fromBits 31 (λ m. ltb m n && bit m x) ⌝ }
-{
-    if 31 <= n {
-        return x % 0x80000000;
-    }
-    x % (1 << n)
-}
 
 // The bits of x that the register shows.
 pub fn shown_of(s: Settings, x: u64) -> u64
     ensures { λ r. ⌜ r ≡ shownOf s x ⌝ }
 {
-    let low = low_bits(s.features.n, x) + (x >> 31) % 2 * 0x80000000;
+    let low = bits::below(s.features.n, x % 0x80000000) + (x >> 31) % 2 * 0x80000000;
     if s.features.icntr {
         return low + (x >> 32) % 2 * 0x100000000;
     }

@@ -1,17 +1,19 @@
-// External accesses and the tick: what is requested from outside, of a record that is tested first.
+// External accesses and the tick: what is to be done, decided from a view in which there is no counter, and the doing.
 pub mod enables; // enables.rt: the enable bits that PMCNTENSET_EL0 shows and sets
 mod reach; // reach.rt: how far an access at an offset gets
 
 ghost use mathlib.Core.Path.{_≡_};
 ghost use Rattle.fields.specs.Store.{store};
-ghost use Rattle.rules.specs.External.{readOf, writeOf, tickOf, obeyed, request, externalRead, externalWrite, tick};
+ghost use Rattle.rules.specs.External.{readOf, writeOf, tickOf, effectOf, judge, enact, externalRead, externalWrite, tick};
 use answer::Answer;
 use machine::Machine;
 use machine::Outcome;
 use machine::Settings;
+use rules::external::Effect;
 use rules::external::Reach;
 use rules::external::Request;
 use state::Verdict;
+use state::View;
 
 // What a read answers that gets so far.
 fn read_of(t: Reach, s: Settings) -> Answer
@@ -22,6 +24,49 @@ fn read_of(t: Reach, s: Settings) -> Answer
         Reach::Ignored => Answer::Value(0),
         Reach::Error => Answer::Error,
         Reach::Pmcntenset => Answer::Value(enables::shown_of(s, s.cnten)),
+    }
+}
+
+// What a write of x does that gets so far.
+fn write_of(t: Reach, x: u64, s: Settings) -> Effect
+    ensures { λ e. ⌜ e ≡ writeOf t x s ⌝ }
+{
+    match t {
+        Reach::Other => Effect::Says(Answer::Other),
+        Reach::Ignored => Effect::Says(Answer::Ok),
+        Reach::Error => Effect::Says(Answer::Error),
+        Reach::Pmcntenset => Effect::Enables(enables::written(s, x)),
+    }
+}
+
+// What a tick does.
+fn tick_of(prohibited: bool, s: Settings) -> Effect
+    ensures { λ e. ⌜ e ≡ tickOf prohibited s ⌝ }
+{
+    if s.features.icntr & ((s.cnten >> 32) % 2 == 1) & !prohibited {
+        return Effect::Count;
+    }
+    Effect::Says(Answer::Ok)
+}
+
+// What is requested of a consistent record.
+fn effect_of(q: Request, s: Settings) -> Effect
+    ensures { λ e. ⌜ e ≡ effectOf q s ⌝ }
+{
+    match q {
+        Request::Read(offset) => Effect::Says(read_of(reach::reach(false, offset, s), s)),
+        Request::Write { offset, value } => write_of(reach::reach(true, offset, s), value, s),
+        Request::Tick(prohibited) => tick_of(prohibited, s),
+    }
+}
+
+// What is requested of any record: the state test comes before all else.
+fn judge(v: View, q: Request) -> Effect
+    ensures { λ e. ⌜ e ≡ judge v q ⌝ }
+{
+    match state::verdict_of(v) {
+        Verdict::Refused(n) => Effect::Says(Answer::Refused(n)),
+        Verdict::Consistent => effect_of(q, v.settings),
     }
 }
 
@@ -36,75 +81,27 @@ fn with_cnten(e: u64, r: Machine) -> Machine
     next
 }
 
-// What a write of x answers that gets so far, and the record after it.
-fn write_of(t: Reach, x: u64, r: Machine) -> Outcome
-    ensures { λ o. ⌜ o ≡ writeOf t x r ⌝ }
+// What an effect answers and does to the record.
+fn enact(e: Effect, r: Machine) -> Outcome
+    ensures { λ o. ⌜ o ≡ enact e r ⌝ }
 {
-    let s = r.settings;
-    match t {
-        Reach::Other => Outcome {
-            answer: Answer::Other,
+    match e {
+        Effect::Says(a) => Outcome {
+            answer: a,
             machine: r,
         },
-        Reach::Ignored => Outcome {
+        Effect::Enables(x) => Outcome {
             answer: Answer::Ok,
-            machine: r,
+            machine: with_cnten(x, r),
         },
-        Reach::Error => Outcome {
-            answer: Answer::Error,
-            machine: r,
-        },
-        Reach::Pmcntenset => Outcome {
-            answer: Answer::Ok,
-            machine: with_cnten(enables::written(s, x), r),
-        },
-    }
-}
-
-// A tick of a consistent record.
-fn tick_of(prohibited: bool, r: Machine) -> Outcome
-    ensures { λ o. ⌜ o ≡ tickOf prohibited r ⌝ }
-{
-    let s = r.settings;
-    if s.features.icntr & ((s.cnten >> 32) % 2 == 1) & !prohibited {
-        let mut next = r;
-        next.instructions = std::num::wrapping_add_u64(r.instructions, 1);
-        return Outcome {
-            answer: Answer::Ok,
-            machine: next,
-        };
-    }
-    Outcome {
-        answer: Answer::Ok,
-        machine: r,
-    }
-}
-
-// What is requested of a consistent record.
-fn obeyed(q: Request, r: Machine) -> Outcome
-    ensures { λ o. ⌜ o ≡ obeyed q r ⌝ }
-{
-    let s = r.settings;
-    match q {
-        Request::Read(offset) => Outcome {
-            answer: read_of(reach::reach(false, offset, s), s),
-            machine: r,
-        },
-        Request::Write { offset, value } => write_of(reach::reach(true, offset, s), value, r),
-        Request::Tick(prohibited) => tick_of(prohibited, r),
-    }
-}
-
-// What is requested of any record: the state test comes before all else.
-fn request(q: Request, r: Machine) -> Outcome
-    ensures { λ o. ⌜ o ≡ request q r ⌝ }
-{
-    match state::verdict_of(state::view_of(r)) {
-        Verdict::Refused(n) => Outcome {
-            answer: Answer::Refused(n),
-            machine: r,
-        },
-        Verdict::Consistent => obeyed(q, r),
+        Effect::Count => {
+            let mut next = r;
+            next.instructions = std::num::wrapping_add_u64(r.instructions, 1);
+            Outcome {
+                answer: Answer::Ok,
+                machine: next,
+            }
+        }
     }
 }
 
@@ -112,19 +109,22 @@ fn request(q: Request, r: Machine) -> Outcome
 pub fn read(offset: u16, r: Machine) -> Outcome
     ensures { λ o. ⌜ o ≡ externalRead offset r ⌝ }
 {
-    request(Request::Read(offset), r)
+    enact(judge(state::view_of(r), Request::Read(offset)), r)
 }
 
 // An external write of x at an offset.
 pub fn write(offset: u16, x: u64, r: Machine) -> Outcome
     ensures { λ o. ⌜ o ≡ externalWrite offset x r ⌝ }
 {
-    request(Request::Write { offset, value: x }, r)
+    enact(
+        judge(state::view_of(r), Request::Write { offset, value: x }),
+        r,
+    )
 }
 
 // One executed instruction, where counting may be prohibited.
 pub fn tick(prohibited: bool, r: Machine) -> Outcome
     ensures { λ o. ⌜ o ≡ tick prohibited r ⌝ }
 {
-    request(Request::Tick(prohibited), r)
+    enact(judge(state::view_of(r), Request::Tick(prohibited)), r)
 }

@@ -10,7 +10,7 @@ use lib.Dec.{leb, eqb}
 use Rattle.fields.proofs.Below.{below}
 use Rattle.answer.specs.declared.Refusal.the-variants.{UnknownField, ValueTooLarge, LevelTooLarge}
 use Rattle.machine.specs.declared.Machine.{Machine}
-use Rattle.fields.specs.Largest.{largest}
+use Rattle.fields.specs.Largest.{largest, largestLevel}
 use Rattle.machine.specs.Machine.{withLevel}
 use Rattle.fields.specs.Store.{store, storeSettings, storeList}
 use Rattle.fields.specs.Set.{set, setLevel}
@@ -67,10 +67,10 @@ module _ (f v : ℕ) (m : Machine) where
   set-stores n h = rw (event-fits f v h (m .events)) (sym (set-stored n h))
 
 module _ (l : ℕ) (m : Machine) where
-  pub level-large : 3 < l → refused LevelTooLarge m ≡ setLevel l m
+  pub level-large : largestLevel < l → refused LevelTooLarge m ≡ setLevel l m
   unfolding setLevel
-  level-large h = sym (rw (lt-ltb 3 l h))
+  level-large h = sym (rw (lt-ltb largestLevel l h))
 
-  pub level-put : l ≤ 3 → done (withLevel l m) ≡ setLevel l m
+  pub level-put : l ≤ largestLevel → done (withLevel l m) ≡ setLevel l m
   unfolding setLevel
-  level-put h = sym (rw (le-ltb 3 l h))
+  level-put h = sym (rw (le-ltb largestLevel l h))

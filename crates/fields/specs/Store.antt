@@ -1,5 +1,5 @@
 -- Which field of the record has which number: each field after a value is stored to the field with number f. Largest.antt has
--- the numbers again, in ranges, with the largest value of each; Set.antt has the tests of the set command. Nothing is tested here.
+-- the numbers again, in ranges, with the largest value of each; Set.antt has the tests of the set command, and here is none.
 use Prim.Native.Nat.{ℕ, _+_, _-_}
 use mathlib.Core.Bool.{Bool, cond, not, _&&_, _||_}
 use mathlib.Core.List.{List}

@@ -2,7 +2,9 @@
 // the value and every other one stays. Nothing is tested here (set.rt).
 ghost use mathlib.Core.Path.{_≡_};
 ghost use mathlib.Core.Bool.{cond};
-ghost use Rattle.fields.specs.Store.{storeFeatures, storeExecution, storePmuserenr, storeHcr, storeMdcr2, storeMdcr3, storeScr, storeHdfgrtr, storeHdfgwtr, storePmuacr, storeExternal, storeSettings, storeList};
+ghost use Rattle.fields.specs.Store.{storeFeatures, storeExecution, storePmuserenr, storeHcr, storeMdcr2, storeMdcr3};
+ghost use Rattle.fields.specs.Store.{storeScr, storeHdfgrtr, storeHdfgwtr, storePmuacr, storeExternal};
+ghost use Rattle.fields.specs.Store.{storeSettings, storeList};
 ghost use Prim.Native.Nat.{_%_};
 use machine::Execution;
 use machine::External;

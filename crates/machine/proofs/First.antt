@@ -13,6 +13,7 @@ pub data Picks {A : Type 0} (d x : A) : List (Bool × A) → Type 0 where
   _↓_ : {b : Bool} {a : A} {rest : List (Bool × A)} → b ≡ false → Picks d x rest → Picks d x ((b, a) ∷ rest)
   held : {b : Bool} {a : A} {rest : List (Bool × A)} → b ≡ true → x ≡ a → Picks d x ((b, a) ∷ rest)
 
+-- and such an x is what `first` gives
 pub picked : {A : Type 0} {d x : A} (rows : List (Bool × A)) → Picks d x rows → x ≡ first rows d
 picked [] (none e) = e
 picked (row ∷ rest) (n ↓ p) = rw n (picked rest p)

@@ -1,61 +1,49 @@
 -- Laws of the counter enables that PMCNTENSET_EL0 shows and sets, as sums and a union.
-use Prim.Native.Nat.{ℕ, zero, suc, _+_, _*_, _/_, _%_, _^_, _<_, _≤_}
-use mathlib.Core.Bool.{Bool, true, false, cond, _&&_, _||_}
+use Prim.Native.Nat.{ℕ, _+_, _*_, _/_, _%_, _^_, _<_}
+use mathlib.Core.Bool.{Bool, true, false, cond, not, _&&_, _||_, and-comm, and-true, or-true, or-false}
 use mathlib.Core.Path.{_≡_, refl, sym, _∙_, ap, ap₂}
-use native.Mathlib.Nat.{mod-eq-of-lt, add-zero}
 use native.Mathlib.Omega.{arith}
-use borrow.Author.Tests.{lt-ltb, le-ltb, ne-eqb, ltb-true, ltb-false}
+use borrow.Author.Tests.{lt-ltb, le-ltb, ne-eqb, leb-true, leb-false}
 use lib.Bits.{bitOr}
-use lib.Dec.{eqb, ltb}
+use lib.Dec.{eqb, leb, ltb}
 use Rattle.machine.specs.declared.Settings.{Settings}
 use Rattle.bits.specs.Bits.{bit, fromBits}
 use Rattle.bits.proofs.Single.{bit-or}
+use Rattle.bits.proofs.Kept.{below-bits}
 use Rattle.bits.proofs.FromBits.{digit, fromBits-suc, fromBits-ext, fromBits-mod, bit-fromBits}
 use Rattle.rules.specs.External.{externalWidth, shown, shownOf, enablesWritten}
 
--- the bits of x below n among the first k
-pub low-all : (n x k : ℕ) → k ≤ n → fromBits k (λ m. ltb m n && bit m x) ≡ x % 2 ^ k
-low-all n x k h =
-    fromBits-ext k (λ m. ltb m n && bit m x) (λ m. bit m x) (λ m l. rw (lt-ltb m n (omega arith))) ∙ fromBits-mod k x
-
-pub low-some : (n x k : ℕ) → n ≤ k → fromBits k (λ m. ltb m n && bit m x) ≡ x % 2 ^ n
-unfolding fromBits
-low-some n x zero h = let e : n ≡ 0 = omega arith in rw e (fromBits-mod 0 x)
-low-some n x (suc k) h = go (low-some n x k) (ltb k n) refl
+ltb-leb : (m n : ℕ) → ltb m n ≡ not (leb n m)
+ltb-leb m n = go (leb n m) refl
   where
-    go : (n ≤ k → fromBits k (λ m. ltb m n && bit m x) ≡ x % 2 ^ n) → (b : Bool) → ltb k n ≡ b
-        → fromBits (suc k) (λ m. ltb m n && bit m x) ≡ x % 2 ^ n
-    go r true t = let e : n ≡ suc k = omega (arith, ltb-true k n t) in low-all n x (suc k) (omega arith) ∙ ap (λ j. x % 2 ^ j) (sym e)
-    go r false t = rw t (add-zero (fromBits k (λ m. ltb m n && bit m x)) ∙ r (ltb-false k n t))
+    go : (b : Bool) → leb n m ≡ b → ltb m n ≡ not b
+    go true e = le-ltb m n (leb-true n m e)
+    go false e = lt-ltb m n (leb-false n m e)
+
+-- the bits of x of the event counters below n
+counters-below : (n x : ℕ) → fromBits 31 (λ m. ltb m n && bit m x) ≡ x % 2 ^ 31 % 2 ^ n
+counters-below n x =
+    fromBits-ext 31 _ _ (λ m h. ap (λ b. b && bit m x) (ltb-leb m n) ∙ and-comm (not (leb n m)) (bit m x))
+    ∙ sym (below-bits 31 (λ m. bit m x) n)
+    ∙ ap (λ y. y % 2 ^ n) (fromBits-mod 31 x)
 
 -- the register is at least 32 bits wide, and 64 with ICNTR
 at-least-32 : (m : ℕ) → m < 32 → (b : Bool) → ltb m (cond b 64 32) ≡ true
 at-least-32 m h true = lt-ltb m 64 (omega arith)
 at-least-32 m h false = lt-ltb m 32 h
 
-or-true : (a : Bool) → a || true ≡ true
-or-true true = refl
-or-true false = refl
-
-or-false : (a : Bool) → a || false ≡ a
-or-false true = refl
-or-false false = refl
-
 module _ (s : Settings) where
-  wide : (m : ℕ) → m < 32 → ltb m (externalWidth s) ≡ true
-  wide m h = at-least-32 m h (s .features .ext64 || s .features .p9 || s .features .icntr)
+  below-width : (m : ℕ) → m < 32 → ltb m (externalWidth s) ≡ true
+  below-width m h = at-least-32 m h (s .features .ext64 || s .features .p9 || s .features .icntr)
 
   -- which bits are shown: below 31 those of the event counters below N, then bit 31, then bit 32 with ICNTR
   shown-low : (m : ℕ) → m < 31 → shown s m ≡ ltb m (s .features .n)
   shown-low m h =
-      rw (wide m (omega arith), lt-ltb m 31 h, ne-eqb m 31 (omega arith), ne-eqb m 32 (omega arith)) (tail (ltb m (s .features .n)))
-    where
-      tail : (b : Bool) → (b || false || false) && true ≡ b
-      tail true = refl
-      tail false = refl
+      rw (below-width m (omega arith), lt-ltb m 31 h, ne-eqb m 31 (omega arith), ne-eqb m 32 (omega arith))
+      (simp (or-false, and-true))
 
   shown-31 : shown s 31 ≡ true
-  shown-31 = wide 31 (omega arith)
+  shown-31 = below-width 31 (omega arith)
 
   shown-32 : shown s 32 ≡ s .features .icntr
   shown-32 = go (s .features .icntr)
@@ -68,7 +56,7 @@ module _ (s : Settings) where
   pub shown-sum :
       (x : ℕ)
       → shownOf s x
-      ≡ fromBits 31 (λ m. ltb m (s .features .n) && bit m x)
+      ≡ x % 2 ^ 31 % 2 ^ s .features .n
       + (x / 2 ^ 31 % 2) * 2 ^ 31
       + cond (s .features .icntr) ((x / 2 ^ 32 % 2) * 2 ^ 32) 0
   unfolding shownOf
@@ -78,7 +66,8 @@ module _ (s : Settings) where
       (fromBits-suc 31 (λ m. shown s m && bit m x)
       ∙ ap₂ _+_
       (fromBits-ext 31 (λ m. shown s m && bit m x) (λ m. ltb m (s .features .n) && bit m x)
-      (λ m h. ap (λ b. b && bit m x) (shown-low m h)))
+      (λ m h. ap (λ b. b && bit m x) (shown-low m h))
+      ∙ counters-below (s .features .n) x)
       (ap (λ b. cond (b && bit 31 x) (2 ^ 31) 0) shown-31 ∙ digit 31 x))
       (ap (λ b. cond (b && bit 32 x) (2 ^ 32) 0) shown-32 ∙ last (s .features .icntr))
     where
@@ -90,7 +79,8 @@ module _ (s : Settings) where
   pub written-union : (x : ℕ) → enablesWritten s x ≡ bitOr (s .cnten) (shownOf s x) % 2 ^ 33
   unfolding enablesWritten shownOf
   written-union x =
-      fromBits-ext 33 (λ m. bit m (s .cnten) || (shown s m && bit m x)) (λ m. bit m (bitOr (s .cnten) (fromBits 33 (λ m. shown s m && bit m x))))
+      fromBits-ext 33 (λ m. bit m (s .cnten) || (shown s m && bit m x))
+      (λ m. bit m (bitOr (s .cnten) (fromBits 33 (λ m. shown s m && bit m x))))
       (λ m h.
       sym
       (bit-or m (s .cnten) (fromBits 33 (λ m. shown s m && bit m x))

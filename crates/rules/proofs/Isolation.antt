@@ -1,5 +1,6 @@
 -- Demand 3: two machines that differ only in counters hidden from EL0 or EL1 answer every list of accesses alike and keep those
--- counters. One induction over the list, over any set of named counters that no decision touches; then the three claims.
+-- counters. One induction over the list, over any set of named counters that no decision touches; then the three claims, and the
+-- same of two consistent machines.
 use Prim.Native.Nat.{ℕ}
 use mathlib.Core.Bool.{Bool, true, not, _&&_}
 use mathlib.Core.List.{List, [], _∷_}
@@ -13,10 +14,11 @@ use Rattle.machine.specs.declared.Settings.{Settings}
 use Rattle.state.specs.declared.View.{View}
 use Rattle.machine.specs.Machine.{withLevel}
 use Rattle.state.specs.State.{viewOf}
-use Rattle.state.proofs.Consistent.{not-wide}
+use Rattle.state.proofs.Consistent.{not-wide, consistent-at-0}
 use Rattle.machine.proofs.Bools.{and-left, and-right}
 use Rattle.rules.specs.declared.Decision.{Decision}
-use Rattle.rules.specs.Isolation.{Named, Kept, Start, fromLevels, Isolated, Claim, fromHpmn, withoutP, instructionCounter, Noninterference, hpmnHides, pmuacrHides, f0Hides}
+use Rattle.rules.specs.Isolation.{Named, Kept, Start, ConsistentMachine, fromLevels, Isolated, Claim, Noninterference}
+use Rattle.rules.specs.Isolation.{fromHpmn, withoutP, instructionCounter, hpmnHides, pmuacrHides, f0Hides}
 use Rattle.rules.specs.declared.Place.the-variants.{Counter, Instructions}
 use Rattle.rules.specs.Apply.{apply}
 use Rattle.rules.specs.Step.{Access, decide, step, access, run}
@@ -111,7 +113,7 @@ module _ (x : Named) (s : Settings) (top : ℕ)
 claim :
     (top : ℕ) (named : Settings → Named) (when : Settings → Bool)
     → ((v : View) → when (v .settings) ≡ true → leb (v .level) top ≡ true → (w y : ℕ) → Hides (named (v .settings)) (decide v w y))
-    → Claim top named when
+    → Claim Start top named when
 claim top named when hides r₁ r₂ accesses s₁ s₂ c l same =
     isolated (named (r₁ .settings)) (r₁ .settings) top
     (λ v e low w y.
@@ -153,10 +155,29 @@ f0-hides v e low w y (Counter m) n = cc
 f0-hides v e low w y Instructions n = f0-hidden v (el0 (v .level) low) (not-true _ e) w y
 
 -- demand 3
-pub noninterference : Noninterference
+pub noninterference : Noninterference Start
 noninterference =
     record {
       hpmn = claim 1 fromHpmn hpmnHides hpmn-hides;
       pmuacr = claim 0 withoutP pmuacrHides pmuacr-hides;
       f0 = claim 0 instructionCounter f0Hides f0-hides;
+    }
+
+-- a machine that is consistent at any level meets the start condition
+pub consistent-start : {r : Machine} → ConsistentMachine r → Start r
+unfolding viewOf
+consistent-start {r} c = record { sized = c .sized; consistent = consistent-at-0 (viewOf r) (c .consistent) }
+
+of-consistent :
+    (top : ℕ) (named : Settings → Named) (when : Settings → Bool) → Claim Start top named when
+    → Claim ConsistentMachine top named when
+of-consistent top named when demanded r₁ r₂ accesses c₁ c₂ = demanded r₁ r₂ accesses (consistent-start c₁) (consistent-start c₂)
+
+-- and so demand 3 of two consistent machines
+pub consistent-noninterference : Noninterference ConsistentMachine
+consistent-noninterference =
+    record {
+      hpmn = of-consistent _ _ _ (noninterference .hpmn);
+      pmuacr = of-consistent _ _ _ (noninterference .pmuacr);
+      f0 = of-consistent _ _ _ (noninterference .f0);
     }

@@ -22,7 +22,7 @@ use Rattle.rules.specs.Traps.{
 use Rattle.rules.specs.Permitted.{placeAccess, addMask}
 use Rattle.rules.specs.Apply.{incremented, apply}
 use Rattle.rules.specs.Step.{decideRegister, decide, step}
-use Rattle.rules.specs.External.{shownOf, enablesWritten, reach, tickOf, obeyed, externalRead, externalWrite, tick}
+use Rattle.rules.specs.External.{shownOf, enablesWritten, reach, effectOf, externalRead, externalWrite, tick}
 use Rattle.rules.specs.Example.{Example, perform, performAll, valid, allValid, usualSettings, usual, start, actual, expected}
 use Rattle.rules.specs.Worked.{worked, misreadings}
 use Rattle.rules.specs.Further.{further}
@@ -37,7 +37,7 @@ unfolding
     largest set viewOf tooLarge refusals verdictOf store storeSettings storeFeatures storeMdcr2 storePmuacr
     named register syndrome decode written disabledTrap stopAtEl3 counterRules counterOrder icntrRules icntrOrder
     pmevcntrStop pmswincStop pmicntrStop placeAccess addMask decideRegister decide incremented apply step fromBits
-    shownOf enablesWritten reach tickOf obeyed externalRead externalWrite tick
+    shownOf enablesWritten reach effectOf externalRead externalWrite tick
     perform performAll setAll usual start actual expected worked misreadings further
 hold = (refl, refl, refl)
 

@@ -1,5 +1,5 @@
 -- 01, "Permitted accesses": external accesses and the tick. What each offset's register shows and sets; how far an access at
--- an offset gets, where each test stands once; and the one wrapper that tests the record first.
+-- an offset gets, where each test stands once; what is then to be done, in one place for all three; and the doing.
 use Prim.Native.Nat.{ℕ}
 use mathlib.Core.Bool.{Bool, true, false, cond, not, _&&_, _||_}
 use mathlib.Core.List.{List, [], _∷_}
@@ -8,15 +8,18 @@ use Rattle.answer.specs.declared.Answer.{Answer}
 use Rattle.machine.specs.declared.Machine.{Machine}
 use Rattle.machine.specs.declared.Outcome.{Outcome}
 use Rattle.machine.specs.declared.Settings.{Settings}
+use Rattle.state.specs.declared.View.{View}
 use Rattle.state.specs.declared.Verdict.{Verdict}
 use Rattle.state.specs.declared.Verdict.the-variants.{Consistent, Refused}
 use Rattle.machine.specs.First.{first}
 use Rattle.machine.specs.Machine.{withInstructions}
-use Rattle.machine.specs.Outcome.{says, refused, done}
+use Rattle.machine.specs.Outcome.{says, done}
 use Rattle.fields.specs.Store.{store}
 use Rattle.state.specs.State.{viewOf, verdictOf}
 use Rattle.rules.specs.declared.external.Request.{Request}
 use Rattle.rules.specs.declared.external.Request.the-variants.{Read, Write, Tick}
+use Rattle.rules.specs.declared.external.Effect.{Effect}
+use Rattle.rules.specs.declared.external.Effect.the-variants.{Says, Enables, Count}
 use Rattle.rules.specs.declared.external.Reach.{Reach}
 use Rattle.rules.specs.declared.external.Reach.the-variants.{Other, Ignored, Error, Pmcntenset}
 use Rattle.bits.specs.Bits.{bit, fromBits}
@@ -72,44 +75,46 @@ readOf Ignored s = Answer.Value 0
 readOf Error s = Answer.Error
 readOf Pmcntenset s = Answer.Value (enablesRead s)
 
--- what a write of x answers that gets so far, and the record after it; the counter enables are field 34
-abbrev pub writeOf : Reach → ℕ → Machine → Outcome
-writeOf Other x r = says Answer.Other r
-writeOf Ignored x r = done r
-writeOf Error x r = says Answer.Error r
-writeOf Pmcntenset x r = done (store 0x34 (enablesWritten (r .settings) x) r)
+-- what a write of x does that gets so far
+abbrev pub writeOf : Reach → ℕ → Settings → Effect
+writeOf Other x s = Says Answer.Other
+writeOf Ignored x s = Says Answer.Ok
+writeOf Error x s = Says Answer.Error
+writeOf Pmcntenset x s = Enables (enablesWritten s x)
 
--- "A tick is one executed instruction: with ICNTR, enable bit 32 set and counting not prohibited, PMICNTR adds 1, wrapping at
--- 2^64."
-unfoldable pub tickOf : Bool → Machine → Outcome
-tickOf prohibited r =
-    cond (r .settings .features .icntr && bit 32 (r .settings .cnten) && not prohibited)
-    (done (withInstructions (plusOne 64 (r .instructions)) r))
-    (done r)
+-- "A tick is one executed instruction: with ICNTR, enable bit 32 set and counting not prohibited, PMICNTR adds 1"
+abbrev pub tickOf : Bool → Settings → Effect
+tickOf prohibited s = cond (s .features .icntr && bit 32 (s .cnten) && not prohibited) Count (Says Answer.Ok)
 
--- what is requested of a consistent record
-unfoldable pub obeyed : Request → Machine → Outcome
-obeyed (Read offset) r = says (readOf (reach false offset (r .settings)) (r .settings)) r
-obeyed (Write offset x) r = writeOf (reach true offset (r .settings)) x r
-obeyed (Tick prohibited) r = tickOf prohibited r
+-- what is requested of a consistent record: no counter is looked at
+unfoldable pub effectOf : Request → Settings → Effect
+effectOf (Read offset) s = Says (readOf (reach false offset s) s)
+effectOf (Write offset x) s = writeOf (reach true offset s) x s
+effectOf (Tick prohibited) s = tickOf prohibited s
 
 -- "before all else, every .. external access and tick tests the record, lowest number first"
-abbrev pub unlessRefusedBy : Verdict → Machine → Outcome → Outcome
-unlessRefusedBy Consistent r o = o
-unlessRefusedBy (Refused n) r o = refused n r
+abbrev pub unlessRefusedBy : Verdict → Effect → Effect
+unlessRefusedBy Consistent e = e
+unlessRefusedBy (Refused n) e = Says (Answer.Refused n)
 
 -- what is requested of any record
-abbrev pub request : Request → Machine → Outcome
-request q r = unlessRefusedBy (verdictOf (viewOf r)) r (obeyed q r)
+abbrev pub judge : View → Request → Effect
+judge v q = unlessRefusedBy (verdictOf v) (effectOf q (v .settings))
+
+-- what an effect answers and does to the record: the counter enables are field 34; PMICNTR is "wrapping at 2^64"
+abbrev pub enact : Effect → Machine → Outcome
+enact (Says a) r = says a r
+enact (Enables e) r = done (store 0x34 e r)
+enact Count r = done (withInstructions (plusOne 64 (r .instructions)) r)
 
 -- the external read at an offset
 unfoldable pub externalRead : ℕ → Machine → Outcome
-externalRead offset r = request (Read offset) r
+externalRead offset r = enact (judge (viewOf r) (Read offset)) r
 
 -- the external write of x at an offset
 unfoldable pub externalWrite : ℕ → ℕ → Machine → Outcome
-externalWrite offset x r = request (Write offset x) r
+externalWrite offset x r = enact (judge (viewOf r) (Write offset x)) r
 
 -- the tick, while counting is prohibited or not
 unfoldable pub tick : Bool → Machine → Outcome
-tick prohibited r = request (Tick prohibited) r
+tick prohibited r = enact (judge (viewOf r) (Tick prohibited)) r

@@ -37,6 +37,11 @@ pub record Start (r : Machine) : Type 0 where
   pub sized : length (r .counters) ≡ 31
   pub consistent : verdictOf (viewOf (withLevel 0 r)) ≡ Consistent
 
+-- a consistent machine, at whatever level it is: `consistent-start` of proofs/Isolation.antt shows that it meets `Start`
+pub record ConsistentMachine (r : Machine) : Type 0 where
+  pub sized : length (r .counters) ≡ 31
+  pub consistent : verdictOf (viewOf r) ≡ Consistent
+
 -- every access of the list is from level top or below
 abbrev pub fromLevels : ℕ → List Access → Bool
 fromLevels top [] = true
@@ -50,13 +55,13 @@ pub record Isolated (x : Named) (accesses : List Access) (r₁ r₂ : Machine) :
   pub kept₁ : Kept x r₁ (run accesses r₁ .machine)
   pub kept₂ : Kept x r₂ (run accesses r₂ .machine)
 
--- the claim for accesses from level top or below, counters named by the settings, and a condition on the settings: two machines
--- that differ only in the counters named answer every list alike, and each keeps those counters
-abbrev pub Claim : ℕ → (Settings → Named) → (Settings → Bool) → Type 0
-Claim top named when =
+-- the claim for a condition on start records, accesses from level top or below, counters named by the settings, and a condition
+-- on the settings: two machines that differ only in the counters named answer every list alike, and each keeps those counters
+abbrev pub Claim : (Machine → Type 0) → ℕ → (Settings → Named) → (Settings → Bool) → Type 0
+Claim start top named when =
     (r₁ r₂ : Machine) (accesses : List Access)
-    → Start r₁
-    → Start r₂
+    → start r₁
+    → start r₂
     → when (r₁ .settings) ≡ true
     → fromLevels top accesses ≡ true
     → SameExcept (named (r₁ .settings)) r₁ r₂
@@ -84,8 +89,9 @@ pmuacrHides s = s .features .p9 && s .pmuserenr .uen && not (s .pmuserenr .sw)
 abbrev pub f0Hides : Settings → Bool
 f0Hides s = not (s .pmuacr .f0)
 
--- demand 3, whole: a noninterference claim, for accesses from EL0 and EL1, from EL0, and from EL0
-pub record Noninterference : Type 0 where
-  pub hpmn : Claim 1 fromHpmn hpmnHides
-  pub pmuacr : Claim 0 withoutP pmuacrHides
-  pub f0 : Claim 0 instructionCounter f0Hides
+-- demand 3, whole: a noninterference claim, for accesses from EL0 and EL1, from EL0, and from EL0. `Noninterference Start` is
+-- what is demanded, and `Noninterference ConsistentMachine` says it of two consistent machines
+pub record Noninterference (start : Machine → Type 0) : Type 0 where
+  pub hpmn : Claim start 1 fromHpmn hpmnHides
+  pub pmuacr : Claim start 0 withoutP pmuacrHides
+  pub f0 : Claim start 0 instructionCounter f0Hides

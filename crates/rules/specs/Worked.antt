@@ -15,42 +15,132 @@ worked =
     record { given = []; level = 1; actions = access 0xD53BE882 0 ∷ []; answers = trap El2 0x6238F851 ∷ []; after = [] }
     -- P2
     ∷ record { given = []; level = 1; actions = access 0xD53BE8A2 0 ∷ []; answers = trap El2 0x623AF851 ∷ []; after = [] }
-    ∷ record { given = (0x65, 41) ∷ []; level = 2; actions = access 0xD53BE8A2 0 ∷ []; answers = Answer.Mrs 41 2 ∷ []; after = [] }
+    ∷ record {
+      given = (0x65, 41) ∷ [];
+      level = 2;
+      actions = access 0xD53BE8A2 0 ∷ [];
+      answers = Answer.Mrs 41 2 ∷ [];
+      after = [];
+    }
     -- P3
     ∷ record { given = []; level = 2; actions = access 0xD53BE8C2 0 ∷ []; answers = Answer.Undef ∷ []; after = [] }
     -- P4
-    ∷ record { given = (0x23, 1) ∷ (0x63, 9) ∷ []; level = 0; actions = access 0xD53BE862 0 ∷ access 0xD51BE862 5 ∷ []; answers = Answer.Mrs 0 2 ∷ Answer.Ok ∷ []; after = [] }
+    ∷ record {
+      given = (0x23, 1) ∷ (0x63, 9) ∷ [];
+      level = 0;
+      actions = access 0xD53BE862 0 ∷ access 0xD51BE862 5 ∷ [];
+      answers = Answer.Mrs 0 2 ∷ Answer.Ok ∷ [];
+      after = [];
+    }
     -- P5
-    ∷ record { given = (0x23, 1) ∷ (0x22, 1) ∷ (0x32, 8) ∷ (0x63, 9) ∷ []; level = 0; actions = access 0xD51BE862 5 ∷ []; answers = Answer.Ok ∷ []; after = [] }
+    ∷ record {
+      given = (0x23, 1) ∷ (0x22, 1) ∷ (0x32, 8) ∷ (0x63, 9) ∷ [];
+      level = 0;
+      actions = access 0xD51BE862 5 ∷ [];
+      answers = Answer.Ok ∷ [];
+      after = [];
+    }
     -- P6
     ∷ record { given = []; level = 1; actions = swinc 0x18 ∷ []; answers = Answer.Ok ∷ []; after = (0x63, 1) ∷ [] }
     ∷ record { given = []; level = 2; actions = swinc 0x18 ∷ []; answers = Answer.Ok ∷ []; after = (0x63, 1) ∷ (0x64, 1) ∷ [] }
     -- P7
-    ∷ record { given = (0x60, 0xFFFFFFFF) ∷ []; level = 1; actions = swinc 1 ∷ []; answers = Answer.Ok ∷ []; after = (0x60, 0x100000000) ∷ [] }
-    ∷ record { given = (0x01, 0) ∷ (0x02, 0) ∷ (0x60, 0xFFFFFFFF) ∷ []; level = 1; actions = swinc 1 ∷ []; answers = Answer.Ok ∷ []; after = (0x60, 0) ∷ [] }
+    ∷ record {
+      given = (0x60, 0xFFFFFFFF) ∷ [];
+      level = 1;
+      actions = swinc 1 ∷ [];
+      answers = Answer.Ok ∷ [];
+      after = (0x60, 0x100000000) ∷ [];
+    }
+    ∷ record {
+      given = (0x01, 0) ∷ (0x02, 0) ∷ (0x60, 0xFFFFFFFF) ∷ [];
+      level = 1;
+      actions = swinc 1 ∷ [];
+      answers = Answer.Ok ∷ [];
+      after = (0x60, 0) ∷ [];
+    }
     -- P8
     ∷ record { given = (0x20, 0) ∷ []; level = 0; actions = swinc 0 ∷ []; answers = trap El1 0x6238E438 ∷ []; after = [] }
-    ∷ record { given = (0x20, 0) ∷ (0x25, 1) ∷ []; level = 0; actions = swinc 0 ∷ []; answers = trap El2 0x6238E438 ∷ []; after = [] }
+    ∷ record {
+      given = (0x20, 0) ∷ (0x25, 1) ∷ [];
+      level = 0;
+      actions = swinc 0 ∷ [];
+      answers = trap El2 0x6238E438 ∷ [];
+      after = [];
+    }
     -- P9
-    ∷ record { given = (0x23, 1) ∷ (0x21, 1) ∷ (0x20, 0) ∷ []; level = 0; actions = swinc 8 ∷ []; answers = Answer.Ok ∷ []; after = (0x63, 1) ∷ [] }
+    ∷ record {
+      given = (0x23, 1) ∷ (0x21, 1) ∷ (0x20, 0) ∷ [];
+      level = 0;
+      actions = swinc 8 ∷ [];
+      answers = Answer.Ok ∷ [];
+      after = (0x63, 1) ∷ [];
+    }
     -- P10
-    ∷ record { given = (0x27, 6) ∷ (0x64, 7) ∷ []; level = 1; actions = access 0xD53BE882 0 ∷ []; answers = Answer.Mrs 7 2 ∷ []; after = [] }
-    ∷ record { given = (0x27, 7) ∷ (0x7F, 5) ∷ []; level = 1; actions = access 0xD53BE882 0 ∷ []; answers = Answer.Refused HpmnAboveN ∷ []; after = [] }
+    ∷ record {
+      given = (0x27, 6) ∷ (0x64, 7) ∷ [];
+      level = 1;
+      actions = access 0xD53BE882 0 ∷ [];
+      answers = Answer.Mrs 7 2 ∷ [];
+      after = [];
+    }
+    ∷ record {
+      given = (0x27, 7) ∷ (0x7F, 5) ∷ [];
+      level = 1;
+      actions = access 0xD53BE882 0 ∷ [];
+      answers = Answer.Refused HpmnAboveN ∷ [];
+      after = [];
+    }
     -- P11
-    ∷ record { given = []; level = 0; actions = write 0xC00 0x1FFFFFFFF ∷ read 0xC00 ∷ []; answers = Answer.Ok ∷ Answer.Value 0x8000003F ∷ []; after = (0x34, 0x8000003F) ∷ [] }
-    ∷ record { given = (0x03, 1) ∷ []; level = 0; actions = write 0xC00 0x1FFFFFFFF ∷ read 0xC00 ∷ []; answers = Answer.Ok ∷ Answer.Value 0x18000003F ∷ []; after = (0x34, 0x18000003F) ∷ [] }
+    ∷ record {
+      given = [];
+      level = 0;
+      actions = write 0xC00 0x1FFFFFFFF ∷ read 0xC00 ∷ [];
+      answers = Answer.Ok ∷ Answer.Value 0x8000003F ∷ [];
+      after = (0x34, 0x8000003F) ∷ [];
+    }
+    ∷ record {
+      given = (0x03, 1) ∷ [];
+      level = 0;
+      actions = write 0xC00 0x1FFFFFFFF ∷ read 0xC00 ∷ [];
+      answers = Answer.Ok ∷ Answer.Value 0x18000003F ∷ [];
+      after = (0x34, 0x18000003F) ∷ [];
+    }
     ∷ []
 
 -- 01, "Readings that would run aground"; the first of them is P9
 unfoldable pub misreadings : List Example
 misreadings =
     -- "Testing MDCR_EL3.TPM of rule 6 before HPMN": m >= HPMN traps to EL2, m < HPMN to EL3
-    record { given = (0x0A, 1) ∷ (0x28, 1) ∷ []; level = 1; actions = access 0xD53BE882 0 ∷ access 0xD53BE862 0 ∷ []; answers = trap El2 0x6238F851 ∷ trap El3 0x6236F851 ∷ []; after = [] }
+    record {
+      given = (0x0A, 1) ∷ (0x28, 1) ∷ [];
+      level = 1;
+      actions = access 0xD53BE882 0 ∷ access 0xD53BE862 0 ∷ [];
+      answers = trap El2 0x6238F851 ∷ trap El3 0x6236F851 ∷ [];
+      after = [];
+    }
     -- "trapping PMSWINC for a high bit: that bit is ignored"
     ∷ record { given = []; level = 0; actions = swinc 0x10 ∷ []; answers = Answer.Ok ∷ []; after = [] }
     -- "Using HPMN in rule 5 or for a PMSWINC bit where EL2 is not enabled"
-    ∷ record { given = (0x10, 0) ∷ (0x65, 41) ∷ []; level = 1; actions = access 0xD53BE8A2 0 ∷ swinc 0x20 ∷ []; answers = Answer.Mrs 41 2 ∷ Answer.Ok ∷ []; after = (0x65, 42) ∷ [] }
+    ∷ record {
+      given = (0x10, 0) ∷ (0x65, 41) ∷ [];
+      level = 1;
+      actions = access 0xD53BE8A2 0 ∷ swinc 0x20 ∷ [];
+      answers = Answer.Mrs 41 2 ∷ Answer.Ok ∷ [];
+      after = (0x65, 42) ∷ [];
+    }
     -- "Letting a PMUACR bit bind level 1": a read, a write and an increment of a counter, and PMICNTR
-    ∷ record { given = (0x23, 1) ∷ (0x63, 9) ∷ []; level = 1; actions = access 0xD53BE862 0 ∷ access 0xD51BE862 5 ∷ swinc 8 ∷ []; answers = Answer.Mrs 9 2 ∷ Answer.Ok ∷ Answer.Ok ∷ []; after = (0x63, 6) ∷ [] }
-    ∷ record { given = (0x03, 1) ∷ (0x7F, 5) ∷ []; level = 1; actions = access 0xD53B9402 0 ∷ access 0xD51B9402 7 ∷ []; answers = Answer.Mrs 5 2 ∷ Answer.Ok ∷ []; after = (0x7F, 7) ∷ [] }
+    ∷ record {
+      given = (0x23, 1) ∷ (0x63, 9) ∷ [];
+      level = 1;
+      actions = access 0xD53BE862 0 ∷ access 0xD51BE862 5 ∷ swinc 8 ∷ [];
+      answers = Answer.Mrs 9 2 ∷ Answer.Ok ∷ Answer.Ok ∷ [];
+      after = (0x63, 6) ∷ [];
+    }
+    ∷ record {
+      given = (0x03, 1) ∷ (0x7F, 5) ∷ [];
+      level = 1;
+      actions = access 0xD53B9402 0 ∷ access 0xD51B9402 7 ∷ [];
+      answers = Answer.Mrs 5 2 ∷ Answer.Ok ∷ [];
+      after = (0x7F, 7) ∷ [];
+    }
     ∷ []

@@ -1,4 +1,5 @@
-// What comes from outside the processing element, and how far an external access gets.
+// What comes from outside the processing element, how far an external access gets, and what is then done.
+use answer::Answer;
 
 // An external read or write at an offset, or a tick, while counting is prohibited or not.
 pub enum Request {
@@ -14,4 +15,12 @@ pub enum Reach {
     Ignored,
     Error,
     Pmcntenset,
+}
+
+// What a request is to do. `Says` answers and changes nothing; the others answer `ok` and put the counter enables, or count
+// one instruction.
+pub enum Effect {
+    Says(Answer),
+    Enables(u64),
+    Count,
 }

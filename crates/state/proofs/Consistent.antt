@@ -3,6 +3,7 @@ use Prim.Native.Nat.{ℕ}
 use mathlib.Core.Bool.{Bool, true, false, _||_, or-false}
 use mathlib.Core.Path.{_≡_, refl, _∙_}
 use lib.Dec.{ltb}
+use Rattle.fields.specs.Largest.{largestLevel}
 use Rattle.machine.proofs.Bools.{or-left}
 use Rattle.machine.proofs.First.{testAt, all-fell}
 use Rattle.state.specs.declared.Verdict.{Verdict}
@@ -37,7 +38,7 @@ large-at-0 v e =
     || exceeds (v .settings .mdcr2 .hpmn) 0x27
     || exceeds (v .settings .pmuacr .p) 0x32
     || exceeds (v .settings .cnten) 0x34 in
-    or-false numbers ∙ or-left numbers (ltb 3 (v .level)) e
+    or-false numbers ∙ or-left numbers (ltb largestLevel (v .level)) e
 
 -- a record that is consistent at some level is so at level 0: the tests of rows 0, 2, 3, 4, 5 and 7 do not look at the level, or ask
 -- for one above

@@ -19,7 +19,7 @@ use Rattle.machine.specs.First.{first}
 use Rattle.state.specs.declared.View.{View}
 use Rattle.state.specs.declared.Verdict.{Verdict}
 use Rattle.state.specs.declared.Verdict.the-variants.{Consistent, Refused}
-use Rattle.fields.specs.Largest.{largest}
+use Rattle.fields.specs.Largest.{largest, largestLevel}
 
 -- some counter is 2^32 or more
 abbrev pub anyWide : List ℕ → Bool
@@ -45,7 +45,7 @@ tooLarge v =
     || exceeds (v .settings .mdcr2 .hpmn) 0x27
     || exceeds (v .settings .pmuacr .p) 0x32
     || exceeds (v .settings .cnten) 0x34
-    || ltb 3 (v .level)
+    || ltb largestLevel (v .level)
 
 -- 11: level is 3 and EL3 missing, or 2 and EL2 not enabled
 abbrev pub levelUnavailable : View → Bool

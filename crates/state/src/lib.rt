@@ -2,6 +2,7 @@
 ghost use mathlib.Core.Path.{_≡_};
 ghost use Rattle.state.specs.State.{anyWide, viewAt, viewOf, verdictOf};
 use answer::Refusal;
+use fields::largest;
 use machine::Machine;
 use machine::Settings;
 
@@ -31,7 +32,7 @@ pub fn verdict_of(v: View) -> Verdict
         | (31 < hpmn)
         | (0x7FFFFFFF < s.pmuacr.p)
         | (0x1FFFFFFFF < s.cnten)
-        | (3 < level);
+        | (largest::LEVEL < level);
     let level_unavailable = ((level == 3) & !has.el3) | ((level == 2) & !el2enabled);
     let el2_unimplemented = el2enabled & !has.el2;
     let hpmn_above_n = has.el2 & (has.n < hpmn);

@@ -16,9 +16,11 @@ use Rattle.machine.specs.Machine.{withLevel}
 use Rattle.machine.specs.Outcome.{says}
 use Rattle.rules.proofs.Applied.{settings-stay, level-stays}
 use Rattle.rules.proofs.Enables.{written-union}
+use Rattle.rules.specs.declared.external.Effect.{Effect}
 use Rattle.rules.specs.declared.external.Reach.{Reach}
 use Rattle.rules.specs.declared.external.Reach.the-variants.{Other, Ignored, Error, Pmcntenset}
-use Rattle.rules.specs.External.{enablesWritten, unlessRefusedBy, reach, readOf, writeOf, tickOf, obeyed, externalRead, externalWrite, tick}
+use Rattle.rules.specs.External.{enablesWritten, unlessRefusedBy, readOf, writeOf, effectOf, enact}
+use Rattle.rules.specs.External.{externalRead, externalWrite, tick}
 use Rattle.rules.specs.Step.{decide, step}
 use Rattle.state.specs.declared.Verdict.{Verdict}
 use Rattle.state.specs.declared.Verdict.the-variants.{Consistent, Refused}
@@ -79,10 +81,11 @@ module _ (r : Machine) (b : tooLarge (viewOf r) ≡ false) where
         machine = rw (level-stays (decide (viewOf r) w x) r, settings-stay (decide (viewOf r) w x) r) b;
       }
 
-  refused-bounded : (v : Verdict) (o : Outcome) → Passes v → Bounded o → Bounded (unlessRefusedBy v r o)
+  refused-bounded :
+      (v : Verdict) (e : Effect) → Passes v → Bounded (enact e r) → Bounded (enact (unlessRefusedBy v e) r)
   unfolding Passes
-  refused-bounded Consistent o p q = q
-  refused-bounded (Refused n) o p q = says-bounded (Answer.Refused n) r p b
+  refused-bounded Consistent e p q = q
+  refused-bounded (Refused n) e p q = says-bounded (Answer.Refused n) r p b
 
   read-spares : (t : Reach) → isRefusal10 (readOf t (r .settings)) ≡ false
   read-spares Other = refl
@@ -91,19 +94,20 @@ module _ (r : Machine) (b : tooLarge (viewOf r) ≡ false) where
   read-spares Pmcntenset = refl
 
   pub read-bounded : (offset : ℕ) → Bounded (externalRead offset r)
-  unfolding externalRead obeyed
+  unfolding externalRead effectOf viewOf
   read-bounded offset = search (refused-bounded, verdict-passes, says-bounded, read-spares)
 
-  write-of-bounded : (t : Reach) (x : ℕ) → Bounded (writeOf t x r)
+  write-of-bounded : (t : Reach) (x : ℕ) → Bounded (enact (writeOf t x (r .settings)) r)
   write-of-bounded Other x = says-bounded _ r refl b
   write-of-bounded Ignored x = says-bounded _ r refl b
   write-of-bounded Error x = says-bounded _ r refl b
   write-of-bounded Pmcntenset x = says-bounded _ _ refl (enables-bounded x)
 
   pub write-bounded : (offset x : ℕ) → Bounded (externalWrite offset x r)
-  unfolding externalWrite obeyed
+  unfolding externalWrite effectOf viewOf
   write-bounded offset x = search (refused-bounded, verdict-passes, write-of-bounded)
 
   pub tick-bounded : (prohibited : Bool) → Bounded (tick prohibited r)
-  unfolding tick obeyed tickOf tooLarge viewOf
-  tick-bounded prohibited = search (refused-bounded, verdict-passes, either Bounded, says-bounded)
+  unfolding tick effectOf tooLarge viewOf
+  tick-bounded prohibited =
+      search (refused-bounded, verdict-passes, either (λ e. Bounded (enact e r)), says-bounded)

@@ -13,9 +13,7 @@ returns-3 : tie.Need-returns-3
 returns-3 c = simp (c .enum-told3 .given .1)
 
 returns-4 : tie.Need-returns-4
-returns-4 c =
-    let at-enum-told4 = c .before .before in
-    simp (at-enum-told4 .enum-told4 .given .1, c .with-cnten .ensures, c .before .written .ensures)
+returns-4 c = simp (c .before .enum-told4 .given .1, c .written .ensures)
 
 pub write-of-spec : {M : Type 1} → statement M
 write-of-spec =
@@ -25,7 +23,6 @@ write-of-spec =
     (λ c. search needs)
     (λ c. search needs)
     (λ c. search needs)
-    (λ c κs. tt)
     (λ c κs. tt)
     returns
     returns-2

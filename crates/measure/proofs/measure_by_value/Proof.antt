@@ -21,7 +21,8 @@ loop-holds c =
     let at-start = c .before .before .before in (
       omega arith,
       omega arith,
-      summed-all (at-start .args .list .now) (at-start .args .x) (c .start .result) ∙ ap (total (at-start .args .list .now) (at-start .args .x)) (c .start .ensures),
+      summed-all (at-start .args .list .now) (at-start .args .x) (c .start .result)
+          ∙ ap (total (at-start .args .list .now) (at-start .args .x)) (c .start .ensures),
     )
 
 mul-c : tie.Need-mul-c Inv-loop μ-loop
@@ -52,14 +53,20 @@ loop-again c =
     let at-start = at-loop .before .before .before .before in (
       omega arith,
       omega (arith, at-wrapping-add-u64 .wrapping-add-u64 .ensures),
-      summed-next (at-start .args .list .now) (at-start .args .x) (at-loop .loop .m) (at-loop .loop .sum) (at-loop-test .loop-test .taken) (at-step .step .ensures) (at-wrapping-add-u64 .wrapping-add-u64 .ensures ∙ ap (λ (n : ℕ). (at-loop .loop .sum + n) % 2 ^ 64) (at-worth .worth .ensures)) ∙ at-loop .loop .inv .2,
+      summed-next (at-start .args .list .now) (at-start .args .x) (at-loop .loop .m) (at-loop .loop .sum)
+          (at-loop-test .loop-test .taken) (at-step .step .ensures)
+          (at-wrapping-add-u64 .wrapping-add-u64 .ensures
+          ∙ ap (λ (n : ℕ). (at-loop .loop .sum + n) % 2 ^ 64) (at-worth .worth .ensures))
+          ∙ at-loop .loop .inv .2,
     )
 
 returns : tie.Need-returns Inv-loop μ-loop
 returns c =
     let at-loop = c .before in
     let at-start = at-loop .before .before .before .before in
-    sym (summed-done (at-start .args .list .now) (at-start .args .x) (at-loop .loop .m) (c .loop-test .left) (at-loop .loop .inv .1)) ∙ at-loop .loop .inv .2
+    let args = at-start .args in
+    sym (summed-done (args .list .now) (args .x) (at-loop .loop .m) (c .loop-test .left) (at-loop .loop .inv .1))
+    ∙ at-loop .loop .inv .2
 
 pub measure-by-value-spec : {M : Type 1} → statement M
 measure-by-value-spec =

@@ -43,7 +43,8 @@ loop-again c =
     let at-loop = at-loop-test .before in
     let at-start = at-loop .before .before .before in (
       omega arith,
-      sets-next (at-start .args .sets .now) (at-loop .loop .m) (at-loop-test .loop-test .taken) (c .before .set .ensures) ∙ at-loop .loop .inv .1,
+      sets-next (at-start .args .sets .now) (at-loop .loop .m) (at-loop-test .loop-test .taken) (c .before .set .ensures)
+          ∙ at-loop .loop .inv .1,
     )
 
 returns : tie.Need-returns Inv-loop μ-loop

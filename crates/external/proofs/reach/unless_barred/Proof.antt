@@ -19,13 +19,15 @@ returns-3 : tie.Need-returns-3
 returns-3 c =
     let at-if1 = c .before .before in
     let at-start = at-if1 .before .before .before .before .before .before .before .before in
-    picked (obstacles (at-start .args .writes) (at-start .args .s)) (at-if1 .if1 .left ↓ c .before .if2 .left ↓ held (c .if3 .taken) refl)
+    picked (obstacles (at-start .args .writes) (at-start .args .s))
+    (at-if1 .if1 .left ↓ c .before .if2 .left ↓ held (c .if3 .taken) refl)
 
 returns-4 : tie.Need-returns-4
 returns-4 c =
     let at-if1 = c .before .before in
     let at-start = at-if1 .before .before .before .before .before .before .before .before in
-    picked (obstacles (at-start .args .writes) (at-start .args .s)) (at-if1 .if1 .left ↓ c .before .if2 .left ↓ c .if3 .left ↓ none refl)
+    picked (obstacles (at-start .args .writes) (at-start .args .s))
+    (at-if1 .if1 .left ↓ c .before .if2 .left ↓ c .if3 .left ↓ none refl)
 
 pub unless-barred-spec : {M : Type 1} → statement M
 unless-barred-spec = tie.close (tie.spec returns returns-2 returns-3 returns-4)

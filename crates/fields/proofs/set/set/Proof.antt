@@ -9,10 +9,23 @@ returns : tie.Need-returns
 returns c = sym (set-unknown _ _ _ (sym (c .before .largest .ensures) ∙ c .if1 .taken))
 
 returns-2 : tie.Need-returns-2
-returns-2 c = sym (set-large _ _ _ (λ z. c .before .if1 .left (c .before .before .largest .ensures ∙ z)) (omega (arith, c .before .before .largest .ensures)))
+returns-2 c =
+    let at-largest = c .before .before in
+    sym
+    (set-large _ _ _ (λ z. c .before .if1 .left (at-largest .largest .ensures ∙ z))
+    (omega (arith, at-largest .largest .ensures)))
 
 returns-3 : tie.Need-returns-3
-returns-3 c = simp (c .before .before .before .settings2 .ensures, c .before .before .events2 .ensures, c .before .counters2 .ensures, c .pick .ensures) (set-stores _ _ _ (λ z. c .before .before .before .before .before .before .before .before .if1 .left (c .before .before .before .before .before .before .before .before .before .largest .ensures ∙ z)) (omega (arith, c .before .before .before .before .before .before .before .before .before .largest .ensures, c .before .before .before .before .before .before .before .if2 .left)))
+returns-3 c =
+    let at-events2 = c .before .before in
+    let at-settings2 = at-events2 .before in
+    let at-if2 = at-settings2 .before .before .before .before in
+    let at-if1 = at-if2 .before in
+    let at-largest = at-if1 .before in
+    simp
+    (at-settings2 .settings2 .ensures, at-events2 .events2 .ensures, c .before .counters2 .ensures, c .pick .ensures)
+    (set-stores _ _ _ (λ z. at-if1 .if1 .left (at-largest .largest .ensures ∙ z))
+    (omega (arith, at-largest .largest .ensures, at-if2 .if2 .left)))
 
 pub set-spec : {M : Type 1} → statement M
 set-spec =

@@ -12,8 +12,12 @@ returns-2 : tie.Need-returns-2
 returns-2 c = store-past _ _ _ _ (c .before .if1 .left) (c .if2 .taken)
 
 returns-3 : tie.Need-returns-3
-returns-3 c = store-at _ _ (c .before .before .args .v % 65536) (c .before .before .args .e) (c .before .if1 .left) (c .if2 .left)
+returns-3 c =
+    let at-start = c .before .before in
+    store-at _ _ (at-start .args .v % 65536) (at-start .args .e) (c .before .if1 .left) (c .if2 .left)
 
 pub events-spec : {M : Type 1} → statement M
 events-spec =
-    tie.close (tie.spec returns returns-2 (λ c. search needs) (λ c. search needs) (λ c. search needs) (λ c. search needs) returns-3)
+    tie.close
+    (tie.spec returns returns-2 (λ c. search needs) (λ c. search needs) (λ c. search needs) (λ c. search needs)
+    returns-3)

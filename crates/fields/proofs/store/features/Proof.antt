@@ -4,7 +4,9 @@ use Rattle.fields.proofs.store.features.Tie as tie
 
 returns : tie.Need-returns
 unfolding Rattle.fields.specs.Store.storeFeatures
-returns c = simp (c .before .before .before .before .before .before .before .before .before .before .before .before .pick .ensures)
+returns c =
+    let at-pick = c .before .before .before .before .before .before .before .before .before .before .before .before in
+    simp (at-pick .pick .ensures)
 
 pub features-spec : {M : Type 1} → statement M
 features-spec = tie.close (tie.spec (λ c κs. tt) returns)

@@ -4,7 +4,31 @@ use Rattle.fields.proofs.store.settings.Tie as tie
 
 returns : tie.Need-returns
 unfolding Rattle.fields.specs.Store.storeSettings
-returns c = simp (c .before .before .before .before .before .before .before .before .before .before .before .features .ensures, c .before .before .before .before .before .before .before .before .before .before .execution .ensures, c .before .before .before .before .before .before .before .before .before .pmuserenr .ensures, c .before .before .before .before .before .before .before .before .hcr .ensures, c .before .before .before .before .before .before .before .mdcr2 .ensures, c .before .before .before .before .before .before .mdcr3 .ensures, c .before .before .before .before .before .scr .ensures, c .before .before .before .before .hdfgrtr .ensures, c .before .before .before .hdfgwtr .ensures, c .before .before .pmuacr .ensures, c .before .pick .ensures, c .external .ensures)
+returns c =
+    let at-pmuacr = c .before .before in
+    let at-hdfgwtr = at-pmuacr .before in
+    let at-hdfgrtr = at-hdfgwtr .before in
+    let at-scr = at-hdfgrtr .before in
+    let at-mdcr3 = at-scr .before in
+    let at-mdcr2 = at-mdcr3 .before in
+    let at-hcr = at-mdcr2 .before in
+    let at-pmuserenr = at-hcr .before in
+    let at-execution = at-pmuserenr .before in
+    let at-features = at-execution .before in
+    simp (
+      at-features .features .ensures,
+      at-execution .execution .ensures,
+      at-pmuserenr .pmuserenr .ensures,
+      at-hcr .hcr .ensures,
+      at-mdcr2 .mdcr2 .ensures,
+      at-mdcr3 .mdcr3 .ensures,
+      at-scr .scr .ensures,
+      at-hdfgrtr .hdfgrtr .ensures,
+      at-hdfgwtr .hdfgwtr .ensures,
+      at-pmuacr .pmuacr .ensures,
+      c .before .pick .ensures,
+      c .external .ensures,
+    )
 
 pub settings-spec : {M : Type 1} → statement M
 settings-spec =

@@ -1,29 +1,29 @@
--- `external::obeyed` meets its contract: a case for each request.
-use Rattle.rules.specs.External.{obeyed}
+-- `external::effect_of` meets its contract: a case for each request.
+use Rattle.rules.specs.External.{effectOf}
 use borrow.Author.Needs.{needs}
-use Rattle.external.proofs.obeyed.Statement.{statement}
-use Rattle.external.proofs.obeyed.Tie as tie
+use Rattle.external.proofs.effect_of.Statement.{statement}
+use Rattle.external.proofs.effect_of.Tie as tie
 
 returns : tie.Need-returns
-unfolding obeyed
+unfolding effectOf
 returns c =
     let at-q = c .before .before .before in
     simp (at-q .q .given .1, c .read-of .ensures, c .before .reach .ensures)
 
 returns-2 : tie.Need-returns-2
-unfolding obeyed
+unfolding effectOf
 returns-2 c =
     let at-q2 = c .before .before .before in
     simp (at-q2 .q2 .given .1, c .write-of .ensures, c .before .reach2 .ensures)
 
 returns-3 : tie.Need-returns-3
-unfolding obeyed
+unfolding effectOf
 returns-3 c =
     let at-q3 = c .before .before in
     simp (at-q3 .q3 .given .1) (c .tick-of .ensures)
 
-pub obeyed-spec : {M : Type 1} → statement M
-obeyed-spec =
+pub effect-of-spec : {M : Type 1} → statement M
+effect-of-spec =
     tie.close
     (tie.spec
     (λ c. search needs)

@@ -1,0 +1,28 @@
+-- `external::enact` meets its contract: a case for each effect.
+use borrow.Author.Needs.{needs}
+use Rattle.external.proofs.enact.Statement.{statement}
+use Rattle.external.proofs.enact.Tie as tie
+
+returns : tie.Need-returns
+returns c = simp (c .before .e .given .1)
+
+returns-2 : tie.Need-returns-2
+returns-2 c =
+    let at-e2 = c .before .before in
+    simp (at-e2 .e2 .given .1, c .with-cnten .ensures)
+
+returns-3 : tie.Need-returns-3
+returns-3 c = simp (c .before .enum-told .given .1, c .wrapping-add-u64 .ensures)
+
+pub enact-spec : {M : Type 1} → statement M
+enact-spec =
+    tie.close
+    (tie.spec
+    (λ c. search needs)
+    (λ c. search needs)
+    (λ c κs. tt)
+    (λ c. search needs)
+    (λ c κs. tt)
+    returns
+    returns-2
+    returns-3)
