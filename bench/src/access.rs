@@ -89,7 +89,7 @@ pub fn report(totals: &[u64]) -> Result<(), String> {
         return Err(format!("{} counts are not two for each row and loop", totals.len()));
     }
     let mut counts = totals.chunks(2).map(|two| (two[1] - two[0]) as f64 / LIST as f64);
-    println!("an access, by value, lent, in place and by the reference: instructions; nanoseconds; time by that of the reference");
+    println!("an access, by value, lent, in place, and by the reference: instructions; nanoseconds; time by the reference's");
     for row in rows() {
         let list = list(&row, 4 * LIST);
         let sums = LOOPS.map(|run| run(&sets(&row), &list, row.operand));

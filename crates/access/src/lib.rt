@@ -1,5 +1,5 @@
-// The access: decide, by a view in which there is no counter, then apply. `lent` has the counters of a record lent and changed there;
-// `step` takes and returns a record by value.
+// The access: decide, by a view in which there is no counter, then apply. `lent` has the counters of a record lent and changed
+// there; `step` takes and returns a record by value.
 pub mod counters; // counters.rt: the event counters
 
 ghost use mathlib.Core.Path.{_≡_};
@@ -77,7 +77,10 @@ pub fn lent(
     w: u32,
     x: u64,
 ) -> Said
-    ensures { λ said. ⌜ Lent (step w x (machineOf level s (now (events .entry)) (now (counters .entry)) instructions)) said (now (counters .exit)) ⌝ }
+    ensures { λ said. ⌜ Lent
+        (step w x (machineOf level s (now (events .entry)) (now (counters .entry)) instructions))
+        said
+        (now (counters .exit)) ⌝ }
 {
     let d = decide::decide(state::view_at(level, s, counters), w, x);
     apply(d, counters, events, s, instructions)

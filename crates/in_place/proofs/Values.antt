@@ -1,6 +1,6 @@
--- The machine values of a record, an answer and an outcome: what is owed of each, that each fits its type, and where an outcome's
--- two fields lie.
-use mathlib.Core.Path.{_≡_, refl, ap}
+-- The machine values of a record, an answer and an outcome: what is owed of each, that what is owed fits its type, and where an
+-- outcome's two fields lie.
+use mathlib.Core.Path.{_≡_, refl}
 use Prim.Native.Nat.{ℕ}
 use mathlib.Core.List.{[], _∷_}
 use mathlib.Core.Option.{Option, none, some}
@@ -13,7 +13,6 @@ use prog.Wp.{Heap}
 use ghost.Atoms.{Atoms}
 use types.Kit.{Given}
 use denote.Laws.{Is}
-use denote.Steps.{only}
 use denote.Struct.Laws as LL
 use denote.Enum.Laws as EL
 use Rattle.machine.specs.declared.Machine.{Machine}
@@ -45,27 +44,12 @@ IsAnswer r v = Is N′.the-row r (v ∷ [])
 abbrev pub IsOutcome : Outcome → Val → Type 0
 IsOutcome out v = Is O′.the-row out (v ∷ [])
 
--- the one machine value of an outcome is the struct of its fields', and that of an answer is its own
-pub told : (out : Outcome) (v : Val) → IsOutcome out v → v ≡ both out
-told out v is = ap only (LL.tells O′.the-type O″.the-laws out (v ∷ []) is)
-
-pub told-answer : (r : Answer) (v : Val) → IsAnswer r v → v ≡ answer-val r
-told-answer r v is = ap only (EL.tells N′.the-type N″.the-laws r (v ∷ []) is)
-
--- what is owed of an outcome's two fields, and of an outcome that is built of them
+-- what is owed of an outcome's two fields
 pub its-answer : (out : Outcome) (v : Val) → IsOutcome out v → IsAnswer (out .answer) (answer-val (out .answer))
 its-answer out v is = LL.owed O′.the-type O″.the-laws out (v ∷ []) is .0
 
 pub its-machine : (out : Outcome) (v : Val) → IsOutcome out v → IsMachine (out .machine) (val (out .machine))
 its-machine out v is = LL.owed O′.the-type O″.the-laws out (v ∷ []) is .1 .0
-
-pub made : (out : Outcome) (v : Val)
-    → IsAnswer (out .answer) v
-    → IsMachine (out .machine) (val (out .machine))
-    → IsOutcome out (both out)
-made out v is-a is-m =
-    let owed = EL.owed N′.the-type N″.the-laws (out .answer) (v ∷ []) is-a in
-    LL.owes O′.the-type O″.the-laws out (EL.owes N′.the-type N″.the-laws (out .answer) owed, (is-m, tt))
 
 -- a value that is owed fits the type
 abbrev Fits : Ty → Val → Type 0

@@ -1,4 +1,5 @@
--- What a conjunction that holds, and a disjunction that does not, say of their parts. (How both compute is in the library's Core.Bool.)
+-- What a conjunction that holds, and a disjunction that does not, say of their parts. (How both compute is in the library's
+-- Core.Bool.)
 use mathlib.Core.Bool.{Bool, true, false, _&&_, _||_}
 use mathlib.Core.Path.{_≡_, refl}
 

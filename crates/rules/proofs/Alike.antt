@@ -102,12 +102,14 @@ module _ (x : Named) (r₁ r₂ : Machine) (a : Alike x r₁ r₂) where
               counters =
                   λ m le n.
                   value-after d r₁ (Counter m) (omega (arith, a .sound₁ .sized))
-                  ∙ (λ i. effect (a .same .settings i .features .p5) (a .same .events i) d (Counter m) (a .same .counters m le n i))
+                  ∙ (λ i.
+                  effect (a .same .settings i .features .p5) (a .same .events i) d (Counter m) (a .same .counters m le n i))
                   ∙ sym (value-after d r₂ (Counter m) (omega (arith, a .sound₂ .sized)));
               instructions =
                   λ n.
                   value-after d r₁ Instructions tt
-                  ∙ (λ i. effect (a .same .settings i .features .p5) (a .same .events i) d Instructions (a .same .instructions n i))
+                  ∙ (λ i.
+                  effect (a .same .settings i .features .p5) (a .same .events i) d Instructions (a .same .instructions n i))
                   ∙ sym (value-after d r₂ Instructions tt);
             };
         sound₁ = sound-stays d (a .sound₁);

@@ -16,7 +16,8 @@ use Rattle.rules.specs.Word.{decode, written}
 use Rattle.rules.specs.Traps.{atOrAboveHpmn, counterRules, pmevcntrStop}
 use Rattle.rules.specs.Permitted.{denied, readOnly, deniedF0, readOnlyIr, ignored, addMask, pmswincAccess}
 use Rattle.rules.specs.Step.{undefinedAtOnce, permitted, decideRegister, decide}
-use Rattle.rules.proofs.Touches.{touches, through-cond, other-place, denied-place, through-register, through-decide, stopped-by}
+use Rattle.rules.proofs.Touches.{touches, other-place, denied-place}
+use Rattle.rules.proofs.Touches.{through-cond, through-register, through-decide, stopped-by}
 
 -- event counter n is touched only through PMEVCNTR<n> and PMSWINC
 module _ (v : View) (n : ℕ) (w x : ℕ) where

@@ -97,7 +97,8 @@ module _ (x : Named) (s : Settings) (top : ℕ)
   isolated (b ∷ rest) r₁ r₂ l e a =
       let low : leb (b .level) top ≡ true = and-left (leb (b .level) top) (fromLevels top rest) l in
       let o : Once x (withLevel (b .level) r₁) (withLevel (b .level) r₂) (access b r₁) (access b r₂) =
-      once (at-level (b .level) a) (b .word) (b .operand) (hides (viewOf (withLevel (b .level) r₁)) e low (b .word) (b .operand)) in
+      once (at-level (b .level) a) (b .word) (b .operand)
+      (hides (viewOf (withLevel (b .level) r₁)) e low (b .word) (b .operand)) in
       let i : Isolated x rest (access b r₁ .machine) (access b r₂ .machine) =
       isolated rest (access b r₁ .machine) (access b r₂ .machine) (and-right (leb (b .level) top) (fromLevels top rest) l)
       (settings-stay (decide (viewOf (withLevel (b .level) r₁)) (b .word) (b .operand)) (withLevel (b .level) r₁) ∙ e)
@@ -109,11 +110,14 @@ module _ (x : Named) (s : Settings) (top : ℕ)
         kept₂ = kept-on (b .level) (o .kept₂) (i .kept₂);
       }
 
--- a claim holds where no decision under such settings touches a counter named
+-- no decision under such settings, from level top or below, touches a counter named
+abbrev HidesAll : ℕ → (Settings → Named) → (Settings → Bool) → Type 0
+HidesAll top named when =
+    (v : View) → when (v .settings) ≡ true → leb (v .level) top ≡ true → (w y : ℕ) → Hides (named (v .settings)) (decide v w y)
+
+-- where that is so, a claim holds
 claim :
-    (top : ℕ) (named : Settings → Named) (when : Settings → Bool)
-    → ((v : View) → when (v .settings) ≡ true → leb (v .level) top ≡ true → (w y : ℕ) → Hides (named (v .settings)) (decide v w y))
-    → Claim Start top named when
+    (top : ℕ) (named : Settings → Named) (when : Settings → Bool) → HidesAll top named when → Claim Start top named when
 claim top named when hides r₁ r₂ accesses s₁ s₂ c l same =
     isolated (named (r₁ .settings)) (r₁ .settings) top
     (λ v e low w y.
@@ -130,27 +134,17 @@ all-three : (a b c : Bool) → a && b && c ≡ true → (a ≡ true) × (b ≡ t
 all-three a b c e =
     (and-left a b (and-left (a && b) c e), and-right a b (and-left (a && b) c e), and-right (a && b) c e)
 
-hpmn-hides :
-    (v : View) → hpmnHides (v .settings) ≡ true → leb (v .level) 1 ≡ true
-    → (w y : ℕ)
-    → Hides (fromHpmn (v .settings)) (decide v w y)
+hpmn-hides : HidesAll 1 fromHpmn hpmnHides
 hpmn-hides v e low w y (Counter m) n = hpmn-hidden v m e low n w y
 hpmn-hides v e low w y Instructions n = cc
 
-pmuacr-hides :
-    (v : View) → pmuacrHides (v .settings) ≡ true
-    → leb (v .level) 0 ≡ true
-    → (w y : ℕ)
-    → Hides (withoutP (v .settings)) (decide v w y)
+pmuacr-hides : HidesAll 0 withoutP pmuacrHides
 pmuacr-hides v e low w y (Counter m) n =
     let t = all-three (v .settings .features .p9) (v .settings .pmuserenr .uen) (not (v .settings .pmuserenr .sw)) e in
     pmuacr-hidden v m (el0 (v .level) low) (t .0) (t .1) (not-true _ (t .2)) n w y
 pmuacr-hides v e low w y Instructions n = cc
 
-f0-hides :
-    (v : View) → f0Hides (v .settings) ≡ true → leb (v .level) 0 ≡ true
-    → (w y : ℕ)
-    → Hides (instructionCounter (v .settings)) (decide v w y)
+f0-hides : HidesAll 0 instructionCounter f0Hides
 f0-hides v e low w y (Counter m) n = cc
 f0-hides v e low w y Instructions n = f0-hidden v (el0 (v .level) low) (not-true _ e) w y
 

@@ -35,7 +35,8 @@ unfolding two largest set store storeSettings storeFeatures storeMdcr2 storePmua
 start-two = record { sized = refl; consistent = refl }
 
 start-three : Start three
-unfolding three largest set store storeSettings storeFeatures storeMdcr2 storePmuacr setAll usual viewOf tooLarge refusals verdictOf
+unfolding three largest set store storeSettings storeFeatures storeMdcr2 storePmuacr
+    setAll usual viewOf tooLarge refusals verdictOf
 start-three = record { sized = refl; consistent = refl }
 
 -- counters other than 5 are equal in the first two
@@ -83,4 +84,10 @@ instructions :
 unfolding one three largest set store storeSettings storeFeatures storeMdcr2 storePmuacr setAll usual
 instructions accesses l =
     noninterference .f0 one three accesses start-one start-three refl l
-    (record { level = refl; settings = refl; events = refl; counters = λ m h e. refl; instructions = λ e. absurd (false≢true (sym e)) })
+    (record {
+      level = refl;
+      settings = refl;
+      events = refl;
+      counters = λ m h e. refl;
+      instructions = λ e. absurd (false≢true (sym e));
+    })

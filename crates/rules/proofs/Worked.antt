@@ -23,7 +23,8 @@ use Rattle.rules.specs.Permitted.{placeAccess, addMask}
 use Rattle.rules.specs.Apply.{incremented, apply}
 use Rattle.rules.specs.Step.{decideRegister, decide, step}
 use Rattle.rules.specs.External.{shownOf, enablesWritten, reach, effectOf, externalRead, externalWrite, tick}
-use Rattle.rules.specs.Example.{Example, perform, performAll, valid, allValid, usualSettings, usual, start, actual, expected}
+use Rattle.rules.specs.Example.{Example, perform, performAll, valid, allValid}
+use Rattle.rules.specs.Example.{usualSettings, usual, start, actual, expected}
 use Rattle.rules.specs.Worked.{worked, misreadings}
 use Rattle.rules.specs.Further.{further}
 

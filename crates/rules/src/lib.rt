@@ -34,8 +34,8 @@ pub enum Place {
     Instructions,
 }
 
-// All that an access is to do: answer and change nothing; read one place into Rt; write one place; or add 1 to event counters by a
-// mask, in which the bits that are ignored are 0.
+// All that an access is to do: answer and change nothing; read one place into Rt; write one place; or add 1 to event counters
+// by a mask, in which the bits that are ignored are 0.
 pub enum Decision {
     Says(Answer),
     Read { place: Place, rt: u8 },

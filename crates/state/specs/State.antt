@@ -76,8 +76,8 @@ tgeAtEl1 v = eqb (v .level) 1 && v .settings .execution .el2enabled && v .settin
 -- 17: p5, p9 or ICNTR without PMUv3, or p9 without p5
 abbrev pub featureMissing : View → Bool
 featureMissing v =
-    ((v .settings .features .p5 || v .settings .features .p9 || v .settings .features .icntr) && not (v .settings .features .pmuv3))
-    || (v .settings .features .p9 && not (v .settings .features .p5))
+    let has = v .settings .features in
+    ((has .p5 || has .p9 || has .icntr) && not (has .pmuv3)) || (has .p9 && not (has .p5))
 
 -- the state test that every access, external access and tick begins with: a row for each refusal, lowest number first
 unfoldable pub refusals : View → List (Bool × Verdict)

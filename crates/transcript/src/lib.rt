@@ -13,8 +13,8 @@ use command::Command;
 // The bytes that any session's output fits into: `room` of specs/Session.antt.
 pub const ROOM: usize = 65600;
 
-// Writes the lines of a session that is not too long, from the fresh record on. The record is one local: an access has its counters
-// lent, and every other command takes and returns it by value.
+// Writes the lines of a session that is not too long, from the fresh record on. The record is one local: an access has its
+// counters lent, and every other command takes and returns it by value.
 fn write_lines(input: &[u8], out: &mut [u8]) -> usize
     requires { ⌜ (length (now input) ≤ longest) × (room ≤ length (now out)) ⌝ }
     ensures { λ end. ⌜ Written (now (out .entry)) 0 (linesFrom 1 (answersOf (now (input .entry)))) (now (out .exit)) end

@@ -1,4 +1,5 @@
-// An instruction word taken apart, once: the register that it names, its direction and Rt, and the syndrome; and what a write stores.
+// An instruction word taken apart, once: the register that it names, its direction and Rt, and the syndrome; and what a
+// write stores.
 ghost use mathlib.Core.Path.{_≡_};
 ghost use Rattle.rules.specs.Word.{named, register, syndrome, decode, written};
 use rules::Instruction;

@@ -14,7 +14,8 @@ unfolding apply
 returns-2 c =
     let at-place = c .before .before .before in
     let at-d2 = at-place .before .before .before in
-    λ l. simp (at-d2 .d2 .given .1, at-place .place .given .1) (record { answer = simp (c .read .ensures); instructions = refl; counters = refl })
+    λ l. simp (at-d2 .d2 .given .1, at-place .place .given .1)
+    (record { answer = simp (c .read .ensures); instructions = refl; counters = refl })
 
 returns-3 : tie.Need-returns-3
 unfolding apply
@@ -28,7 +29,8 @@ returns-4 c =
     let at-store = c .before .before in
     let at-place2 = at-store .before .before .before in
     let at-d3 = at-place2 .before .before .before in
-    λ l. simp (at-d3 .d3 .given .1, at-place2 .place2 .given .1) (record { answer = refl; instructions = refl; counters = at-store .store .ensures })
+    λ l. simp (at-d3 .d3 .given .1, at-place2 .place2 .given .1)
+    (record { answer = refl; instructions = refl; counters = at-store .store .ensures })
 
 returns-5 : tie.Need-returns-5
 unfolding apply

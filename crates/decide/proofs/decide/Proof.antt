@@ -16,7 +16,9 @@ unfolding decide
 returns-2 c =
     let at-enum-told = c .before .before in
     let at-verdict-of = at-enum-told .before .before in
-    simp (sym (at-verdict-of .verdict-of .ensures) ∙ at-enum-told .enum-told .given .1, sym (c .before .decode .ensures)) (c .decide-register .ensures)
+    simp
+    (sym (at-verdict-of .verdict-of .ensures) ∙ at-enum-told .enum-told .given .1, sym (c .before .decode .ensures))
+    (c .decide-register .ensures)
 
 pub decide-spec : {M : Type 1} → statement M
 decide-spec =

@@ -12,7 +12,9 @@ returns-2 c =
     let at-stop-of = c .before .before in
     let at-if1 = at-stop-of .before in
     let at-undefined-at-once = at-if1 .before in
-    c .unless-stopped .ensures ∙ in-order _ _ _ _ (sym (at-undefined-at-once .undefined-at-once .ensures) ∙ at-if1 .if1 .left) (at-stop-of .stop-of .ensures) (c .before .permitted .ensures)
+    c .unless-stopped .ensures
+    ∙ in-order _ _ _ _ (sym (at-undefined-at-once .undefined-at-once .ensures) ∙ at-if1 .if1 .left)
+    (at-stop-of .stop-of .ensures) (c .before .permitted .ensures)
 
 pub decide-register-spec : {M : Type 1} → statement M
 decide-register-spec = tie.close (tie.spec (λ c κs. tt) returns (λ c κs. tt) (λ c κs. tt) (λ c κs. tt) returns-2)

@@ -23,7 +23,8 @@ loop-holds c =
     let at-start = c .before .before .before in (
       omega arith,
       omega arith,
-      summed-all (at-start .args .list .now) (at-start .args .x) (c .start .result) ∙ ap (total (at-start .args .list .now) (at-start .args .x)) (c .start .ensures),
+      summed-all (at-start .args .list .now) (at-start .args .x) (c .start .result)
+          ∙ ap (total (at-start .args .list .now) (at-start .args .x)) (c .start .ensures),
     )
 
 mul-c : tie.Need-mul-c Inv-loop μ-loop
@@ -52,8 +53,10 @@ loop-again c =
     let at-start = at-loop .before .before .before .before in (
       omega arith,
       omega (arith, c .wrapping-add-u64 .ensures),
-      summed-next (at-start .args .list .now) (at-start .args .x) (at-loop .loop .m) (at-loop .loop .sum) (at-loop-test .loop-test .taken)
-          (whole _ _ (withLevel (getD (at-start .args .list .now) (at-loop .loop .i) 0 / 2 ^ 32 % 4) (at-loop .loop .m)) (at-lent .lent .result) _ (at-lent .lent .ensures))
+      summed-next (at-start .args .list .now) (at-start .args .x) (at-loop .loop .m) (at-loop .loop .sum)
+          (at-loop-test .loop-test .taken)
+          (whole _ _ (withLevel (getD (at-start .args .list .now) (at-loop .loop .i) 0 / 2 ^ 32 % 4) (at-loop .loop .m))
+          (at-lent .lent .result) _ (at-lent .lent .ensures))
           (c .wrapping-add-u64 .ensures ∙ ap (λ (n : ℕ). (at-loop .loop .sum + n) % 2 ^ 64) (c .before .worth .ensures))
           ∙ at-loop .loop .inv .2,
     )
@@ -62,7 +65,9 @@ returns : tie.Need-returns Inv-loop μ-loop
 returns c =
     let at-loop = c .before in
     let at-start = at-loop .before .before .before .before in
-    sym (summed-done (at-start .args .list .now) (at-start .args .x) (at-loop .loop .m) (c .loop-test .left) (at-loop .loop .inv .1)) ∙ at-loop .loop .inv .2
+    sym
+    (summed-done (at-start .args .list .now) (at-start .args .x) (at-loop .loop .m) (c .loop-test .left) (at-loop .loop .inv .1))
+    ∙ at-loop .loop .inv .2
 
 pub measure-lent-spec : {M : Type 1} → statement M
 measure-lent-spec =

@@ -29,10 +29,18 @@ loop-less : tie.Need-loop-less Inv-loop μ-loop
 loop-less c = omega arith
 
 loop-again : tie.Need-loop-again Inv-loop μ-loop
-loop-again c = (omega arith, c .before .before .loop .inv .1 ∙ wide-next (c .before .before .before .args .counters .now) (c .before .before .loop .i) (c .before .before .loop .found) (c .before .loop-test .taken))
+loop-again c = (
+  omega arith,
+  c .before .before .loop .inv .1
+      ∙ wide-next (c .before .before .before .args .counters .now) (c .before .before .loop .i)
+      (c .before .before .loop .found) (c .before .loop-test .taken),
+)
 
 returns : tie.Need-returns Inv-loop μ-loop
-returns c = sym (c .before .loop .inv .1 ∙ wide-done (c .before .before .args .counters .now) (c .before .loop .i) (c .before .loop .found) (c .loop-test .left))
+returns c =
+    sym
+    (c .before .loop .inv .1
+    ∙ wide-done (c .before .before .args .counters .now) (c .before .loop .i) (c .before .loop .found) (c .loop-test .left))
 
 pub any-wide-spec : {M : Type 1} → statement M
 any-wide-spec =

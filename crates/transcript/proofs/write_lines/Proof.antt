@@ -67,13 +67,16 @@ returns c =
     let at-size-at = at-match .before in
     let at-command-of = at-size-at .before .before in
     let at-loop = at-command-of .before .before in
-    let same = ⊎-elim {C = at-match .match .c ≡ at-command-of .command-of .result} (λ w. w .9 ∙ sym (w .1 .given .1)) (λ v. v .4) (at-match .match .came) in
+    let same =
+    ⊎-elim {C = at-match .match .c ≡ at-command-of .command-of .result} (λ w. w .9 ∙ sym (w .1 .given .1)) (λ v. v .4)
+    (at-match .match .came) in
     let ran =
     ⊎-elim {C = says (at-match .match .a) (at-match .match .m) ≡ execute (at-match .match .c) (at-loop .loop .m)}
     (λ w. access-ran _ (at-loop .loop .m) _ _ _ _ (w .7 .result) _ (w .9) (w .7 .ensures) (w .10) (w .8))
     (λ v. other-ran _ (at-loop .loop .m) _ _ _ (v .1 .result) (v .4) (v .1 .ensures) (v .5) (v .3))
     (at-match .match .came) in (
-      turn-end (at-loop .loop .inv) (same ∙ at-command-of .command-of .ensures) (at-size-at .size-at .ensures) (c .before .is-last .ensures) ran (at-line .line .ensures .0)
+      turn-end (at-loop .loop .inv) (same ∙ at-command-of .command-of .ensures) (at-size-at .size-at .ensures)
+          (c .before .is-last .ensures) ran (at-line .line .ensures .0)
           (c .if1 .taken),
       omega (arith, at-line .line .ensures .1, at-loop .loop .inv .spare, at-loop .loop .inv .kept),
     )
@@ -85,13 +88,16 @@ loop-again c =
     let at-size-at = at-match .before in
     let at-command-of = at-size-at .before .before in
     let at-loop = at-command-of .before .before in
-    let same = ⊎-elim {C = at-match .match .c ≡ at-command-of .command-of .result} (λ w. w .9 ∙ sym (w .1 .given .1)) (λ v. v .4) (at-match .match .came) in
+    let same =
+    ⊎-elim {C = at-match .match .c ≡ at-command-of .command-of .result} (λ w. w .9 ∙ sym (w .1 .given .1)) (λ v. v .4)
+    (at-match .match .came) in
     let ran =
     ⊎-elim {C = says (at-match .match .a) (at-match .match .m) ≡ execute (at-match .match .c) (at-loop .loop .m)}
     (λ w. access-ran _ (at-loop .loop .m) _ _ _ _ (w .7 .result) _ (w .9) (w .7 .ensures) (w .10) (w .8))
     (λ v. other-ran _ (at-loop .loop .m) _ _ _ (v .1 .result) (v .4) (v .1 .ensures) (v .5) (v .3))
     (at-match .match .came) in
-    turn-on (at-loop .loop .inv) (same ∙ at-command-of .command-of .ensures) (at-size-at .size-at .ensures) (c .before .is-last .ensures) ran (at-line .line .ensures .0)
+    turn-on (at-loop .loop .inv) (same ∙ at-command-of .command-of .ensures) (at-size-at .size-at .ensures)
+    (c .before .is-last .ensures) ran (at-line .line .ensures .0)
     (at-line .line .ensures .1) (c .if1 .left)
 
 loop-less : tie.Need-loop-less Inv-loop μ-loop
@@ -100,11 +106,14 @@ loop-less c =
     let at-size-at = at-match .before in
     let at-command-of = at-size-at .before .before in
     let at-loop = at-command-of .before .before in
-    let same = ⊎-elim {C = at-match .match .c ≡ at-command-of .command-of .result} (λ w. w .9 ∙ sym (w .1 .given .1)) (λ v. v .4) (at-match .match .came) in
+    let same =
+    ⊎-elim {C = at-match .match .c ≡ at-command-of .command-of .result} (λ w. w .9 ∙ sym (w .1 .given .1)) (λ v. v .4)
+    (at-match .match .came) in
     omega (
       arith,
       loop-again c .within,
-      turn-size (at-loop .loop .inv) (same ∙ at-command-of .command-of .ensures) (at-size-at .size-at .ensures) (c .before .is-last .ensures) (c .if1 .left),
+      turn-size (at-loop .loop .inv) (same ∙ at-command-of .command-of .ensures) (at-size-at .size-at .ensures)
+          (c .before .is-last .ensures) (c .if1 .left),
     )
 
 add-at : tie.Need-add-at Inv-loop μ-loop

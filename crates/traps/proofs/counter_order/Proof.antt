@@ -8,7 +8,9 @@ use Rattle.rules.specs.Traps.{counterRules, counterOrder}
 use Rattle.traps.proofs.counter_order.Statement.{statement}
 use Rattle.traps.proofs.counter_order.Tie as tie
 
-row : (v : View) (disabled trapBit above : Bool) {x : Stop} → Picks Stop.Pass x (counterRules v disabled trapBit above) → x ≡ counterOrder v disabled trapBit above
+row :
+    (v : View) (disabled trapBit above : Bool) {x : Stop} → Picks Stop.Pass x (counterRules v disabled trapBit above)
+    → x ≡ counterOrder v disabled trapBit above
 unfolding counterOrder
 row v disabled trapBit above p = picked (counterRules v disabled trapBit above) p
 
@@ -51,7 +53,9 @@ returns-6 c =
     let at-if3 = at-if4 .before in
     let at-if2 = at-if3 .before in
     let at-if1 = at-if2 .before in
-    row _ _ _ _ (at-if1 .if1 .left ↓ at-if2 .if2 .left ↓ at-if3 .if3 .left ↓ at-if4 .if4 .left ↓ at-if5 .if5 .left ↓ held (c .before .if6 .taken) (c .stop-at-el3 .ensures))
+    row _ _ _ _
+    (at-if1 .if1 .left ↓ at-if2 .if2 .left ↓ at-if3 .if3 .left ↓ at-if4 .if4 .left ↓ at-if5 .if5 .left ↓
+    held (c .before .if6 .taken) (c .stop-at-el3 .ensures))
 
 returns-7 : tie.Need-returns-7
 unfolding counterRules
@@ -60,7 +64,9 @@ returns-7 c =
     let at-if3 = at-if4 .before in
     let at-if2 = at-if3 .before in
     let at-if1 = at-if2 .before in
-    row _ _ _ _ (at-if1 .if1 .left ↓ at-if2 .if2 .left ↓ at-if3 .if3 .left ↓ at-if4 .if4 .left ↓ c .before .if5 .left ↓ c .if6 .left ↓ none refl)
+    row _ _ _ _
+    (at-if1 .if1 .left ↓ at-if2 .if2 .left ↓ at-if3 .if3 .left ↓ at-if4 .if4 .left ↓ c .before .if5 .left ↓ c .if6 .left ↓
+    none refl)
 
 pub counter-order-spec : {M : Type 1} → statement M
 counter-order-spec =

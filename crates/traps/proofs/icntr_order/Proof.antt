@@ -40,7 +40,9 @@ returns-5 c =
     let at-if3 = at-if4 .before in
     let at-if2 = at-if3 .before in
     let at-if1 = at-if2 .before in
-    row _ _ (at-if1 .if1 .left ↓ at-if2 .if2 .left ↓ at-if3 .if3 .left ↓ at-if4 .if4 .left ↓ held (c .before .if5 .taken) (c .stop-at-el3 .ensures))
+    row _ _
+    (at-if1 .if1 .left ↓ at-if2 .if2 .left ↓ at-if3 .if3 .left ↓ at-if4 .if4 .left ↓
+    held (c .before .if5 .taken) (c .stop-at-el3 .ensures))
 
 returns-6 : tie.Need-returns-6
 unfolding icntrRules
@@ -50,7 +52,9 @@ returns-6 c =
     let at-if3 = at-if4 .before in
     let at-if2 = at-if3 .before in
     let at-if1 = at-if2 .before in
-    row _ _ (at-if1 .if1 .left ↓ at-if2 .if2 .left ↓ at-if3 .if3 .left ↓ at-if4 .if4 .left ↓ at-if5 .if5 .left ↓ held (c .before .if6 .taken) (c .stop-at-el32 .ensures))
+    row _ _
+    (at-if1 .if1 .left ↓ at-if2 .if2 .left ↓ at-if3 .if3 .left ↓ at-if4 .if4 .left ↓ at-if5 .if5 .left ↓
+    held (c .before .if6 .taken) (c .stop-at-el32 .ensures))
 
 returns-7 : tie.Need-returns-7
 unfolding icntrRules
@@ -59,7 +63,9 @@ returns-7 c =
     let at-if3 = at-if4 .before in
     let at-if2 = at-if3 .before in
     let at-if1 = at-if2 .before in
-    row _ _ (at-if1 .if1 .left ↓ at-if2 .if2 .left ↓ at-if3 .if3 .left ↓ at-if4 .if4 .left ↓ c .before .if5 .left ↓ c .if6 .left ↓ none refl)
+    row _ _
+    (at-if1 .if1 .left ↓ at-if2 .if2 .left ↓ at-if3 .if3 .left ↓ at-if4 .if4 .left ↓ c .before .if5 .left ↓ c .if6 .left ↓
+    none refl)
 
 pub icntr-order-spec : {M : Type 1} → statement M
 icntr-order-spec =

@@ -54,7 +54,8 @@ loop-again c =
     let at-loop = at-event .before .before .before in (
       omega arith,
       simp length-set (at-loop .loop .inv .1),
-      turn _ _ _ _ (at-loop .loop .i) (at-loop .loop .rest) _ (at-loop .loop .counters) _ (at-loop .loop .inv .2) (at-loop .loop .inv .3) (at-event .event .ensures) (c .incremented .ensures),
+      turn _ _ _ _ (at-loop .loop .i) (at-loop .loop .rest) _ (at-loop .loop .counters) _ (at-loop .loop .inv .2)
+          (at-loop .loop .inv .3) (at-event .event .ensures) (c .incremented .ensures),
       half _ (at-loop .loop .i) (at-loop .loop .rest) (at-loop .loop .inv .3),
     )
 

@@ -10,7 +10,9 @@ returns : tie.Need-returns
 returns c =
     let at-if1 = c .before .before in
     let at-start = at-if1 .before in
-    simp (at-if1 .if1 .taken) (c .held .ensures ∙ ap (λ y. y % 2 ^ width (at-start .args .p5)) (c .before .wrapping-add-u64 .ensures) ∙ one-more (at-start .args .p5) (at-start .args .y))
+    simp (at-if1 .if1 .taken)
+    (c .held .ensures ∙ ap (λ y. y % 2 ^ width (at-start .args .p5)) (c .before .wrapping-add-u64 .ensures)
+    ∙ one-more (at-start .args .p5) (at-start .args .y))
 
 returns-2 : tie.Need-returns-2
 returns-2 c = simp (c .if1 .left)

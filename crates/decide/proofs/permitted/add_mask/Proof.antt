@@ -13,7 +13,10 @@ returns c =
     let at-below-hpmn = at-pmuacr-binds .before in
     let at-below = at-below-hpmn .before in
     let at-start = at-below .before .before in
-    let test : holdsBack (at-start .args .v) ≡ _ = ap (λ b. b && not (at-start .args .v .settings .pmuserenr .sw)) (sym (at-pmuacr-binds .pmuacr-binds .ensures)) ∙ c .before .if1 .taken in simp (at-below-hpmn .below-hpmn .ensures, at-below .below .ensures) (simp test at (mask-steps (at-start .args .v) (at-start .args .x)))
+    let test : holdsBack (at-start .args .v) ≡ _ =
+    ap (λ b. b && not (at-start .args .v .settings .pmuserenr .sw)) (sym (at-pmuacr-binds .pmuacr-binds .ensures))
+    ∙ c .before .if1 .taken in simp (at-below-hpmn .below-hpmn .ensures, at-below .below .ensures)
+    (simp test at (mask-steps (at-start .args .v) (at-start .args .x)))
 
 returns-2 : tie.Need-returns-2
 returns-2 c =
@@ -21,7 +24,10 @@ returns-2 c =
     let at-below-hpmn = at-pmuacr-binds .before in
     let at-below = at-below-hpmn .before in
     let at-start = at-below .before .before in
-    let test : holdsBack (at-start .args .v) ≡ _ = ap (λ b. b && not (at-start .args .v .settings .pmuserenr .sw)) (sym (at-pmuacr-binds .pmuacr-binds .ensures)) ∙ c .if1 .left in simp (at-below-hpmn .below-hpmn .ensures, at-below .below .ensures) (simp test at (mask-steps (at-start .args .v) (at-start .args .x)))
+    let test : holdsBack (at-start .args .v) ≡ _ =
+    ap (λ b. b && not (at-start .args .v .settings .pmuserenr .sw)) (sym (at-pmuacr-binds .pmuacr-binds .ensures))
+    ∙ c .if1 .left in simp (at-below-hpmn .below-hpmn .ensures, at-below .below .ensures)
+    (simp test at (mask-steps (at-start .args .v) (at-start .args .x)))
 
 pub add-mask-spec : {M : Type 1} → statement M
 add-mask-spec = tie.close (tie.spec (λ c κs. tt) (λ c κs. tt) (λ c κs. tt) returns returns-2)

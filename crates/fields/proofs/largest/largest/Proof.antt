@@ -51,7 +51,8 @@ returns-6 c =
     let at-if1 = at-if2 .before in
     let at-start = at-if1 .before in
     picked (kinds (at-start .args .f))
-    (at-if1 .if1 .left ↓ at-if2 .if2 .left ↓ at-if3 .if3 .left ↓ at-if4 .if4 .left ↓ c .before .if5 .left ↓ held (c .if6 .taken) refl)
+    (at-if1 .if1 .left ↓ at-if2 .if2 .left ↓ at-if3 .if3 .left ↓ at-if4 .if4 .left ↓ c .before .if5 .left ↓
+    held (c .if6 .taken) refl)
 
 returns-7 : tie.Need-returns-7
 unfolding largest
@@ -62,7 +63,8 @@ returns-7 c =
     let at-if1 = at-if2 .before in
     let at-start = at-if1 .before in
     picked (kinds (at-start .args .f))
-    (at-if1 .if1 .left ↓ at-if2 .if2 .left ↓ at-if3 .if3 .left ↓ at-if4 .if4 .left ↓ c .before .if5 .left ↓ c .if6 .left ↓ none refl)
+    (at-if1 .if1 .left ↓ at-if2 .if2 .left ↓ at-if3 .if3 .left ↓ at-if4 .if4 .left ↓ c .before .if5 .left ↓ c .if6 .left ↓
+    none refl)
 
 pub largest-spec : {M : Type 1} → statement M
 largest-spec = tie.close (tie.spec returns returns-2 returns-3 returns-4 returns-5 returns-6 returns-7)
