@@ -1,6 +1,6 @@
--- Demand 3: two machines that differ only in counters hidden from EL0 or EL1 answer every list of accesses alike and keep those
--- counters. One induction over the list, over any set of named counters that no decision touches; then the three claims, and the
--- same of two consistent machines.
+-- Demand 3: two machines that differ only in counters hidden from EL0, or from EL0 and EL1, answer every list of accesses from
+-- there alike and keep those counters. One induction over the list, over any set of named counters that no decision touches;
+-- then the three claims, and the same of two consistent machines.
 use Prim.Native.Nat.{ℕ}
 use mathlib.Core.Bool.{Bool, true, not, _&&_}
 use mathlib.Core.List.{List, [], _∷_}

@@ -1,6 +1,5 @@
 -- The mask of PMSWINC by operations on whole numbers: the operand's bits below 31 and below N, then those below HPMN where
--- it binds,
--- then those of PMUACR where it holds back.
+-- it binds, then those of PMUACR where it holds back.
 use Prim.Native.Nat.{ℕ, _%_, _^_}
 use mathlib.Core.Bool.{Bool, true, false, cond, not, _&&_, _||_, and-true}
 use mathlib.Core.Path.{_≡_, refl, sym, _∙_, ap}

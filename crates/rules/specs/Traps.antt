@@ -71,9 +71,8 @@ disabledTrap v = Stop.Trap (cond (el2Enabled v && v .settings .hcr .tge) El2 El1
 unfoldable pub stopAtEl3 : View → Stop
 stopAtEl3 v = cond (haltedSdd v) Stop.Undef (Stop.Trap El3)
 
--- "PMEVCNTR and PMSWINC, first that applies": each rule's test and its stop, from whether PMUSERENR shuts the access out at
--- EL0, the
--- fine-grained bit of the register and direction, and whether m >= HPMN
+-- "PMEVCNTR and PMSWINC, first that applies": each rule's test and its stop, from whether PMUSERENR has disabled the access
+-- at EL0, the fine-grained bit of the register and direction, and whether m >= HPMN
 unfoldable pub counterRules : View → Bool → Bool → Bool → List (Bool × Stop)
 counterRules v disabled trapBit above =
     (rule1 v, Stop.Undef)

@@ -1,5 +1,5 @@
 -- Document 01's examples as data: `worked` is its table "Soundings to prove", and `misreadings` has one for each of its "Readings
--- that would run aground".
+-- that would run aground" but the first, which is P9.
 use mathlib.Core.List.{List, [], _∷_}
 use Rattle.answer.specs.declared.Answer.{Answer}
 use Rattle.answer.specs.declared.Level.the-variants.{El1, El2, El3}

@@ -13,7 +13,8 @@ pub enum Register {
     Other,
 }
 
-// An MRS or MSR word taken apart: the register that it names, whether it is a read (MRS), Rt, and the syndrome of a trap.
+// An instruction word taken apart: the register that it names, if any of ours, and for those whether it is a read (MRS), Rt,
+// and the syndrome of a trap.
 pub struct Instruction {
     pub register: Register,
     pub read: bool,

@@ -41,8 +41,7 @@ large-at-0 v e =
     or-false numbers ∙ or-left numbers (ltb largestLevel (v .level)) e
 
 -- a record that is consistent at some level is so at level 0: the tests of rows 0, 2, 3, 4, 5 and 7 do not look at the
--- level, or ask
--- for one above
+-- level, or ask for one above
 pub consistent-at-0 : (v : View) → verdictOf v ≡ Consistent → verdictOf (levelledTo0 v) ≡ Consistent
 unfolding verdictOf refusals
 consistent-at-0 v e =

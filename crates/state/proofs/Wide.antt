@@ -1,22 +1,13 @@
 -- Laws of `anyWide`, the test of refusal 15, along a list: what was found so far, or something in what is left.
 use Prim.Native.Nat.{ℕ, _+_, _^_, _<_, _≤_}
-use mathlib.Core.Bool.{Bool, true, false, _||_}
+use mathlib.Core.Bool.{Bool, _||_, or-assoc, or-false}
 use mathlib.Core.List.{List}
-use mathlib.Core.Path.{_≡_, refl, _∙_, ap}
+use mathlib.Core.Path.{_≡_, sym, _∙_, ap}
 use native.Mathlib.Numerals.{add-one}
 use lib.Dec.{leb}
 use lib.ListN.{length, drop, getD, drop-of-length-le}
 use lib.Seq.{drop-cons}
 use Rattle.state.specs.State.{anyWide}
-
--- what is left is behind one test more, or behind none
-or-assoc : (a b c : Bool) → a || (b || c) ≡ (a || b) || c
-or-assoc true b c = refl
-or-assoc false b c = refl
-
-or-false : (a : Bool) → a || false ≡ a
-or-false true = refl
-or-false false = refl
 
 module _ (l : List ℕ) (i : ℕ) (found : Bool) where
   -- one element taken off the front
@@ -27,7 +18,7 @@ module _ (l : List ℕ) (i : ℕ) (found : Bool) where
       i < length l → found || anyWide (drop i l) ≡ (found || leb (2 ^ 32) (getD l i 0)) || anyWide (drop (i + 1) l)
   wide-next h =
       ap (λ (b : Bool). found || b) (wide-drop h)
-      ∙ or-assoc found (leb (2 ^ 32) (getD l i 0)) (anyWide (drop (i + 1) l))
+      ∙ sym (or-assoc found (leb (2 ^ 32) (getD l i 0)) (anyWide (drop (i + 1) l)))
 
   pub wide-done : length l ≤ i → found || anyWide (drop i l) ≡ found
   wide-done h = rw (drop-of-length-le l h, or-false found)

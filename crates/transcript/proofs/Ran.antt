@@ -1,6 +1,5 @@
 -- A command run by the code, an access with the counters lent or another command by value, has the outcome of the
--- definition; and what
--- the tag of a command says, where a match takes every variant but some.
+-- definition; and what the tag of a command says, where a match takes every variant but some.
 use Prim.Native.Nat.{ℕ}
 use mathlib.Core.Bool.{false}
 use mathlib.Core.List.{List, [], _∷_}
