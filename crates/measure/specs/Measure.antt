@@ -1,4 +1,5 @@
--- The measured loops: a list of accesses from a record that a list of sets makes, and a sum over the answers, so that no access whose
+-- The measured loops: a list of accesses from a record that a list of sets makes, and a sum over the answers, so that no
+-- access whose
 -- answer counts can be left out.
 use Prim.Native.Nat.{ℕ, _+_, _/_, _%_, _^_}
 use mathlib.Core.List.{List, [], _∷_, map}

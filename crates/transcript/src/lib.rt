@@ -13,14 +13,15 @@ use command::Command;
 // The bytes that any session's output fits into: `room` of specs/Session.antt.
 pub const ROOM: usize = 65600;
 
-// Writes the lines of a session that is not too long, from the fresh record on. The record is one local: an access has its
-// counters lent, and every other command takes and returns it by value.
+// Writes the lines of a session that is not too long, from the fresh record on. The record is a local, and its counters are
+// one of their own: an access has them lent, and every other command takes and returns the whole record by value.
 fn write_lines(input: &[u8], out: &mut [u8]) -> usize
     requires { ⌜ (length (now input) ≤ longest) × (room ≤ length (now out)) ⌝ }
     ensures { λ end. ⌜ Written (now (out .entry)) 0 (linesFrom 1 (answersOf (now (input .entry)))) (now (out .exit)) end
         × (end ≤ length (now (out .entry))) ⌝ }
 {
     let mut m = machine::fresh::fresh();
+    let mut counters = m.counters;
     let mut at: usize = 0;
     let mut end: usize = 0;
     let mut position: u64 = 1;
@@ -32,14 +33,12 @@ fn write_lines(input: &[u8], out: &mut [u8]) -> usize
             Command::Access { word, operand } => {
                 let events = m.events;
                 let settings = m.settings;
-                let level = m.level;
-                let instructions = m.instructions;
                 let said = access::lent(
-                    &mut m.counters,
+                    &mut counters,
                     &events,
                     settings,
-                    level,
-                    instructions,
+                    m.level,
+                    m.instructions,
                     word,
                     operand,
                 );
@@ -48,9 +47,13 @@ fn write_lines(input: &[u8], out: &mut [u8]) -> usize
                 a = answer;
             }
             _ => {
-                let o = execute::other(c, m);
+                let mut r = m;
+                r.counters = counters;
+                let o = execute::other(c, r);
                 let next = o.machine;
                 m = next;
+                let left = next.counters;
+                counters = left;
                 let answer = o.answer;
                 a = answer;
             }

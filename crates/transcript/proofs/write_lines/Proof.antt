@@ -1,10 +1,13 @@
--- `transcript::write_lines` meets its contract: its loop keeps the invariant, which at the end says the definition.
+-- `transcript::write_lines` meets its contract: its loop keeps the invariant, which at the end says the definition. The
+-- record is the
+-- local `m` with the local `counters` for its own.
 use Prim.Native.Nat.{_-_}
 use mathlib.Core.Logic.{⊎-elim}
-use mathlib.Core.Path.{_≡_, sym, _∙_}
+use mathlib.Core.Path.{_≡_, sym, _∙_, ap₂}
 use native.Mathlib.Omega.{arith}
 use borrow.Author.Needs.{needs}
 use lib.ListN.{length}
+use Rattle.machine.specs.Machine.{withCounters}
 use Rattle.machine.specs.Outcome.{says}
 use Rattle.transcript.specs.Session.{execute}
 use Rattle.transcript.proofs.Ran.{no-access, access-ran, other-ran}
@@ -14,15 +17,16 @@ use Rattle.transcript.proofs.write_lines.Statement.{statement}
 use Rattle.transcript.proofs.write_lines.Tie as tie
 
 abbrev Inv-loop : tie.InvT-loop
-Inv-loop input out₀ m₀ at₀ end₀ position₀ out m at end position = Running input out₀ out m at end position
+Inv-loop input out₀ m₀ counters₀ at₀ end₀ position₀ out m counters at end position =
+    Running input out₀ out (withCounters counters m) at end position
 
 abbrev μ-loop : tie.MeasureT-loop
-μ-loop input out₀ m₀ at₀ end₀ position₀ out m at end position = length input - at
+μ-loop input out₀ m₀ counters₀ at₀ end₀ position₀ out m counters at end position = length input - at
 
 loop-holds : tie.Need-loop-holds Inv-loop μ-loop
 loop-holds c =
-    let at-start = c .before .before .before in
-    running-start (c .fresh .ensures) (at-start .pre .0) (at-start .pre .1)
+    let at-start = c .before .before .before .before in
+    running-start (c .before .fresh .ensures) (at-start .pre .0) (at-start .pre .1)
 
 sub-command-of : tie.Need-sub-command-of Inv-loop μ-loop
 sub-command-of c = omega (arith, c .loop .inv .within)
@@ -67,16 +71,17 @@ returns c =
     let at-size-at = at-match .before in
     let at-command-of = at-size-at .before .before in
     let at-loop = at-command-of .before .before in
-    let same =
-    ⊎-elim {C = at-match .match .c ≡ at-command-of .command-of .result} (λ w. w .9 ∙ sym (w .1 .given .1)) (λ v. v .4)
-    (at-match .match .came) in
+    let same = ⊎-elim {C = at-match .match .c ≡ at-command-of .command-of .result} (λ w. w .10
+    ∙ sym (w .1 .given .1)) (λ v. v .6) (at-match .match .came) in
+    let m = withCounters (at-loop .loop .counters) (at-loop .loop .m) in
     let ran =
-    ⊎-elim {C = says (at-match .match .a) (at-match .match .m) ≡ execute (at-match .match .c) (at-loop .loop .m)}
-    (λ w. access-ran _ (at-loop .loop .m) _ _ _ _ (w .7 .result) _ (w .9) (w .7 .ensures) (w .10) (w .8))
-    (λ v. other-ran _ (at-loop .loop .m) _ _ _ (v .1 .result) (v .4) (v .1 .ensures) (v .5) (v .3))
+    ⊎-elim {C =
+    says (at-match .match .a) (withCounters (at-match .match .counters) (at-match .match .m)) ≡ execute (at-match .match .c) m}
+    (λ w. access-ran _ m _ _ _ _ (w .7 .result) _ (w .10) (w .7 .ensures) (w .11) (ap₂ withCounters (w .9) (w .8)))
+    (λ v. other-ran _ m _ _ _ (v .1 .result) (v .6) (v .1 .ensures) (v .7) (ap₂ withCounters (v .5) (v .4)))
     (at-match .match .came) in (
-      turn-end (at-loop .loop .inv) (same ∙ at-command-of .command-of .ensures) (at-size-at .size-at .ensures)
-          (c .before .is-last .ensures) ran (at-line .line .ensures .0)
+      turn-end (at-loop .loop .inv) (same
+          ∙ at-command-of .command-of .ensures) (at-size-at .size-at .ensures) (c .before .is-last .ensures) ran (at-line .line .ensures .0)
           (c .if1 .taken),
       omega (arith, at-line .line .ensures .1, at-loop .loop .inv .spare, at-loop .loop .inv .kept),
     )
@@ -88,16 +93,17 @@ loop-again c =
     let at-size-at = at-match .before in
     let at-command-of = at-size-at .before .before in
     let at-loop = at-command-of .before .before in
-    let same =
-    ⊎-elim {C = at-match .match .c ≡ at-command-of .command-of .result} (λ w. w .9 ∙ sym (w .1 .given .1)) (λ v. v .4)
-    (at-match .match .came) in
+    let same = ⊎-elim {C = at-match .match .c ≡ at-command-of .command-of .result} (λ w. w .10
+    ∙ sym (w .1 .given .1)) (λ v. v .6) (at-match .match .came) in
+    let m = withCounters (at-loop .loop .counters) (at-loop .loop .m) in
     let ran =
-    ⊎-elim {C = says (at-match .match .a) (at-match .match .m) ≡ execute (at-match .match .c) (at-loop .loop .m)}
-    (λ w. access-ran _ (at-loop .loop .m) _ _ _ _ (w .7 .result) _ (w .9) (w .7 .ensures) (w .10) (w .8))
-    (λ v. other-ran _ (at-loop .loop .m) _ _ _ (v .1 .result) (v .4) (v .1 .ensures) (v .5) (v .3))
+    ⊎-elim {C =
+    says (at-match .match .a) (withCounters (at-match .match .counters) (at-match .match .m)) ≡ execute (at-match .match .c) m}
+    (λ w. access-ran _ m _ _ _ _ (w .7 .result) _ (w .10) (w .7 .ensures) (w .11) (ap₂ withCounters (w .9) (w .8)))
+    (λ v. other-ran _ m _ _ _ (v .1 .result) (v .6) (v .1 .ensures) (v .7) (ap₂ withCounters (v .5) (v .4)))
     (at-match .match .came) in
-    turn-on (at-loop .loop .inv) (same ∙ at-command-of .command-of .ensures) (at-size-at .size-at .ensures)
-    (c .before .is-last .ensures) ran (at-line .line .ensures .0)
+    turn-on (at-loop .loop .inv) (same
+    ∙ at-command-of .command-of .ensures) (at-size-at .size-at .ensures) (c .before .is-last .ensures) ran (at-line .line .ensures .0)
     (at-line .line .ensures .1) (c .if1 .left)
 
 loop-less : tie.Need-loop-less Inv-loop μ-loop
@@ -106,14 +112,13 @@ loop-less c =
     let at-size-at = at-match .before in
     let at-command-of = at-size-at .before .before in
     let at-loop = at-command-of .before .before in
-    let same =
-    ⊎-elim {C = at-match .match .c ≡ at-command-of .command-of .result} (λ w. w .9 ∙ sym (w .1 .given .1)) (λ v. v .4)
-    (at-match .match .came) in
+    let same = ⊎-elim {C = at-match .match .c ≡ at-command-of .command-of .result} (λ w. w .10
+    ∙ sym (w .1 .given .1)) (λ v. v .6) (at-match .match .came) in
     omega (
       arith,
       loop-again c .within,
-      turn-size (at-loop .loop .inv) (same ∙ at-command-of .command-of .ensures) (at-size-at .size-at .ensures)
-          (c .before .is-last .ensures) (c .if1 .left),
+      turn-size (at-loop .loop .inv) (same
+          ∙ at-command-of .command-of .ensures) (at-size-at .size-at .ensures) (c .before .is-last .ensures) (c .if1 .left),
     )
 
 add-at : tie.Need-add-at Inv-loop μ-loop

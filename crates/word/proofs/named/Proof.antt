@@ -9,10 +9,11 @@ use Rattle.word.proofs.named.Tie as tie
 returns : tie.Need-returns
 unfolding named
 returns c =
-    simp
-    (c .before .before .match .keys1,
-    le-leb _ _ (c .before .if1 .left),
-    le-leb (c .before .before .before .args .crm) 11 (omega arith))
+    simp (
+      c .before .before .match .keys1,
+      le-leb _ _ (c .before .if1 .left),
+      le-leb (c .before .before .before .args .crm) 11 (omega arith),
+    )
 
 returns-2 : tie.Need-returns-2
 unfolding named
