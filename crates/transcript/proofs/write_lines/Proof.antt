@@ -71,8 +71,9 @@ returns c =
     let at-size-at = at-match .before in
     let at-command-of = at-size-at .before .before in
     let at-loop = at-command-of .before .before in
-    let same = ⊎-elim {C = at-match .match .c ≡ at-command-of .command-of .result} (λ w. w .10
-    ∙ sym (w .1 .given .1)) (λ v. v .6) (at-match .match .came) in
+    let same =
+    ⊎-elim {C = at-match .match .c ≡ at-command-of .command-of .result} (λ w. w .10 ∙ sym (w .1 .given .1)) (λ v. v .6)
+    (at-match .match .came) in
     let m = withCounters (at-loop .loop .counters) (at-loop .loop .m) in
     let ran =
     ⊎-elim {C =
@@ -80,9 +81,8 @@ returns c =
     (λ w. access-ran _ m _ _ _ _ (w .7 .result) _ (w .10) (w .7 .ensures) (w .11) (ap₂ withCounters (w .9) (w .8)))
     (λ v. other-ran _ m _ _ _ (v .1 .result) (v .6) (v .1 .ensures) (v .7) (ap₂ withCounters (v .5) (v .4)))
     (at-match .match .came) in (
-      turn-end (at-loop .loop .inv) (same
-          ∙ at-command-of .command-of .ensures) (at-size-at .size-at .ensures) (c .before .is-last .ensures) ran (at-line .line .ensures .0)
-          (c .if1 .taken),
+      turn-end (at-loop .loop .inv) (same ∙ at-command-of .command-of .ensures) (at-size-at .size-at .ensures)
+          (c .before .is-last .ensures) ran (at-line .line .ensures .0) (c .if1 .taken),
       omega (arith, at-line .line .ensures .1, at-loop .loop .inv .spare, at-loop .loop .inv .kept),
     )
 
@@ -93,8 +93,9 @@ loop-again c =
     let at-size-at = at-match .before in
     let at-command-of = at-size-at .before .before in
     let at-loop = at-command-of .before .before in
-    let same = ⊎-elim {C = at-match .match .c ≡ at-command-of .command-of .result} (λ w. w .10
-    ∙ sym (w .1 .given .1)) (λ v. v .6) (at-match .match .came) in
+    let same =
+    ⊎-elim {C = at-match .match .c ≡ at-command-of .command-of .result} (λ w. w .10 ∙ sym (w .1 .given .1)) (λ v. v .6)
+    (at-match .match .came) in
     let m = withCounters (at-loop .loop .counters) (at-loop .loop .m) in
     let ran =
     ⊎-elim {C =
@@ -102,9 +103,8 @@ loop-again c =
     (λ w. access-ran _ m _ _ _ _ (w .7 .result) _ (w .10) (w .7 .ensures) (w .11) (ap₂ withCounters (w .9) (w .8)))
     (λ v. other-ran _ m _ _ _ (v .1 .result) (v .6) (v .1 .ensures) (v .7) (ap₂ withCounters (v .5) (v .4)))
     (at-match .match .came) in
-    turn-on (at-loop .loop .inv) (same
-    ∙ at-command-of .command-of .ensures) (at-size-at .size-at .ensures) (c .before .is-last .ensures) ran (at-line .line .ensures .0)
-    (at-line .line .ensures .1) (c .if1 .left)
+    turn-on (at-loop .loop .inv) (same ∙ at-command-of .command-of .ensures) (at-size-at .size-at .ensures)
+    (c .before .is-last .ensures) ran (at-line .line .ensures .0) (at-line .line .ensures .1) (c .if1 .left)
 
 loop-less : tie.Need-loop-less Inv-loop μ-loop
 loop-less c =
@@ -112,13 +112,13 @@ loop-less c =
     let at-size-at = at-match .before in
     let at-command-of = at-size-at .before .before in
     let at-loop = at-command-of .before .before in
-    let same = ⊎-elim {C = at-match .match .c ≡ at-command-of .command-of .result} (λ w. w .10
-    ∙ sym (w .1 .given .1)) (λ v. v .6) (at-match .match .came) in
+    let same =
+    ⊎-elim {C = at-match .match .c ≡ at-command-of .command-of .result} (λ w. w .10 ∙ sym (w .1 .given .1)) (λ v. v .6)
+    (at-match .match .came) in
     omega (
       arith,
       loop-again c .within,
-      turn-size (at-loop .loop .inv) (same
-          ∙ at-command-of .command-of .ensures) (at-size-at .size-at .ensures) (c .before .is-last .ensures) (c .if1 .left),
+      turn-size (at-loop .loop .inv) (same ∙ at-command-of .command-of .ensures) (at-size-at .size-at .ensures) (c .before .is-last .ensures) (c .if1 .left),
     )
 
 add-at : tie.Need-add-at Inv-loop μ-loop
