@@ -118,7 +118,8 @@ loop-less c =
     omega (
       arith,
       loop-again c .within,
-      turn-size (at-loop .loop .inv) (same ∙ at-command-of .command-of .ensures) (at-size-at .size-at .ensures) (c .before .is-last .ensures) (c .if1 .left),
+      turn-size (at-loop .loop .inv) (same ∙ at-command-of .command-of .ensures) (at-size-at .size-at .ensures)
+          (c .before .is-last .ensures) (c .if1 .left),
     )
 
 add-at : tie.Need-add-at Inv-loop μ-loop
