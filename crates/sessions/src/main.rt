@@ -1,34 +1,36 @@
-// Runs the sessions in the files that its arguments name, and prints each name and the session's lines: the stored examples.
-use libc::STDOUT_FILENO;
+// Runs the sessions in the files that its arguments name, and prints each name and the session's lines: the stored examples. A
+// file that can't be opened or read is named on standard error, and the next one follows; where nothing can be written, it ends.
 
-// One file.
-fn show(name: &[u8]) {
-    io::write_all(STDOUT_FILENO, b"== ");
-    io::write_all(STDOUT_FILENO, name);
-    io::write_all(STDOUT_FILENO, b"\n");
+// One file: its name, and the lines of its session.
+fn show(name: &[u8]) -> bool {
+    if !(console::write(b"== ") && console::write(name) && console::write(b"\n")) {
+        return false;
+    }
     let fd = os::open_read(name);
     if fd < 0 {
         os::fail(name);
-        return;
+        return true;
     }
     let mut input = [0u8; 4097];
-    let n = io::read_full(fd, &mut input);
+    let written = console::run(fd, name, &mut input);
     libc::close(fd);
-    console::print(&input[..n]);
+    written
 }
 
 // The file that argument i names.
-fn show_argument(i: usize) {
+fn show_argument(i: usize) -> bool {
     let mut name = [0u8; 64];
     let n = os::arg(i, &mut name);
-    show(&name[..n]);
+    show(&name[..n])
 }
 
 fn main() {
     let count = os::arg_count();
     let mut i = 1;
     while i < count {
-        show_argument(i);
+        if !show_argument(i) {
+            return;
+        }
         i += 1;
     }
 }

@@ -11,8 +11,8 @@ array-share-prefix-out c =
     let at-session = c .before .before .before .before in
     bytes-fit _ _ (sym (c .before .k .given .1) ∙ at-session .session .ensures .0) (at-session .session .ensures .1)
 
-slice-aggregate-write-all : tie.Need-slice-aggregate-write-all
-slice-aggregate-write-all c =
+slice-aggregate-write : tie.Need-slice-aggregate-write
+slice-aggregate-write c =
     let at-k = c .before .before in
     let at-session = at-k .before .before .before in
     let fit = bytes-fit _ _ (sym (at-k .k .given .1) ∙ at-session .session .ensures .0) (at-session .session .ensures .1) in
@@ -26,7 +26,7 @@ print-spec =
     (λ c κs. search needs)
     (λ c. search needs)
     array-share-prefix-out
-    slice-aggregate-write-all
+    slice-aggregate-write
     (λ c κs. search needs)
     (λ c. search needs)
     (λ c. search needs)

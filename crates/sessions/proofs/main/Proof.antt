@@ -25,6 +25,7 @@ main-spec =
     (λ c κs. tt)
     (λ c. tt)
     (λ c κs. tt)
+    (λ c. tt)
     add-i
     loop-less
     (λ c. tt)
