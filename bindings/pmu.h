@@ -1,7 +1,7 @@
 /* The session function of the proved model, for C: link target/staticlib/libpmu.a, which `rt staticlib pmu` writes.
  *
  * crates/pmu/src/lib.rt has the functions and what is proved of them. No session is out of place here: whatever its bytes, the
- * output is what document 01 says of them. What C cannot promise and the proofs rest on is that each pointer is to as many
+ * output is what docs/MODEL.md says of them. What C cannot promise and the proofs rest on is that each pointer is to as many
  * bytes as the length behind it says, and that the two do not overlap. pmu_run tests for null, for lengths that no object can
  * have, and for overlap. */
 #ifndef PMU_H

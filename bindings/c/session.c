@@ -30,19 +30,25 @@ static int wrongly_run(void)
     return out[0] != 0 ? 7 : 0;
 }
 
-/* What pmu_run must run: the number of the first that it does not, or 0. */
+/* The session gives this output. */
+static int gives(const uint8_t *session, size_t length, const char *lines)
+{
+    size_t n = strlen(lines);
+
+    return pmu_run(session, length, out, PMU_ROOM) == n && memcmp(out, lines, n) == 0;
+}
+
+/* What pmu_run must run, and the constants of the header: the number of the first that is not so, or 0. */
 static int wrongly_refused(void)
 {
     if (pmu_room() != PMU_ROOM)
         return 1;
-    if (pmu_run(NULL, 0, out, PMU_ROOM) != 12 || memcmp(out, "1 refused 2\n", 12) != 0)
+    if (!gives(NULL, 0, "1 refused 2\n") || !gives(out + 1, 0, "1 refused 2\n"))
         return 2;
-    if (pmu_run(out + 1, 0, out, PMU_ROOM) != 12)
+    if (!gives(bytes, 1, "1 end\n") || !gives(out + PMU_ROOM, 1, "1 end\n"))
         return 3;
-    if (pmu_run(bytes, 1, out, PMU_ROOM) != 6 || memcmp(out, "1 end\n", 6) != 0)
+    if (!gives(input, PMU_LONGEST, "1 end\n") || !gives(input, PMU_LONGEST + 1, "0 refused 6\n"))
         return 4;
-    if (pmu_run(out + PMU_ROOM, 1, out, PMU_ROOM) != 6)
-        return 5;
     return 0;
 }
 
@@ -56,6 +62,14 @@ int main(void)
         return 1;
     }
     n = fread(input, 1, sizeof input, stdin);
+    if (ferror(stdin)) {
+        perror("standard input");
+        return 1;
+    }
     n = pmu_run(input, n, out, PMU_ROOM);
-    return n != 0 && fwrite(out, 1, n, stdout) == n ? 0 : 1;
+    if (n == 0 || fwrite(out, 1, n, stdout) != n || fflush(stdout) != 0) {
+        perror("standard output");
+        return 1;
+    }
+    return 0;
 }

@@ -1,6 +1,6 @@
 //! Random sessions through the proved model, by its static library, and
 //! through the reference: `compare SEED COUNT`. Prints the seed, and the first
-//! session on which the two differ, in the notation of document 01.
+//! session on which the two differ, in the notation of docs/SESSIONS.md.
 
 use reference::{generate, notation, session};
 use std::process::ExitCode;

@@ -1,4 +1,4 @@
-//! Directed sessions: for each rule of document 01 the situations in which it
+//! Directed sessions: for each rule of docs/MODEL.md the situations in which it
 //! applies and those beside it, where exactly one of its conditions is flipped
 //! or a second rule applies too. They are made from tables, one subject a file,
 //! and are the same every time. Most end by reading what may have changed.

@@ -183,7 +183,8 @@ impl Writer {
         self.change_level();
     }
 
-    /// Debug state with EL3 in the way: rules 1 and 6 against those between.
+    /// MODEL T1 to T6 and I1 to I6: Debug state with EL3 in the way, the first
+    /// and the last against those between.
     fn debug_state(&mut self) {
         for field in [0x0A, 0x0B, 0x11, 0x12, 0x28] {
             self.start_bit(field, 85);

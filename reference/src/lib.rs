@@ -1,6 +1,7 @@
-//! The model of document 01, "Counter register access for the clearance
-//! trainer", written from the document alone: a library, so that a comparison
-//! can run it beside another program, and the program `reference` over it.
+//! The model of docs/MODEL.md a second time. It was written from the paper
+//! behind that page, document 01, and from Arm's register pages, without sight
+//! of the Rattle code or its definitions: a library, so that a comparison can
+//! run it beside another program, and the program `reference` over it.
 
 pub mod directed;
 pub mod generate;

@@ -1,7 +1,6 @@
-//! A reference program for document 01, "Counter register access for the
-//! clearance trainer". It runs sessions, turns the notation into bytes and
-//! back, makes pseudo-random and directed sessions, and prints hashes of their
-//! outputs.
+//! A reference program for the model of docs/MODEL.md. It runs sessions, turns
+//! the notation of docs/SESSIONS.md into bytes and back, makes pseudo-random
+//! and directed sessions, and prints hashes of their outputs.
 
 use reference::{directed, generate, notation, session};
 use std::fs;

@@ -1,6 +1,6 @@
-//! The machine record and what it answers, written from document 01 and
-//! shaped after the pseudocode of the register pages 000, 001, 002 and 004.
-//! Each page has one function per exception level; the machine is lent.
+//! The machine record and what it answers, shaped after the pseudocode of the
+//! four register pages of Arm's. Each page has one function per exception
+//! level; the machine is passed by reference.
 
 /// Everything a command can answer, except the end of a session.
 #[derive(Clone, Copy, Debug, PartialEq, Eq)]
@@ -35,7 +35,7 @@ const EL3: u8 = 3;
 const BIT_C: u64 = 1 << 31;
 const BIT_F0: u64 = 1 << 32;
 
-/// The record of 01, "The machine record". A fresh one is all zero.
+/// MODEL F1 to F18: the machine record. A fresh one is all zero.
 #[derive(Clone, Debug, Default, PartialEq, Eq)]
 pub struct Machine {
     /// PSTATE.EL
@@ -286,8 +286,8 @@ impl Machine {
 
 // The state tests.
 impl Machine {
-    /// The lowest number of 01, "Refused because of the state", that applies.
-    /// Number 10 cannot: set and set_level keep every field in its range.
+    /// MODEL V3: the lowest number of R10 to R17 that applies. R10 cannot: set
+    /// and set_level keep every field in its range.
     pub fn state_refusal(&self) -> Option<u8> {
         let wide = self.pmevcntr.iter().any(|&c| c >> 32 != 0);
         let needs_pmuv3 = self.pmuv3p5 || self.pmuv3p9 || self.icntr;
@@ -347,7 +347,7 @@ impl Machine {
     }
 }
 
-// Page 000, PMSWINC_EL0.
+// Arm's page of PMSWINC_EL0: MODEL U3, U4, T1 to T10 and G8 to G10.
 impl Machine {
     fn pmswinc_at_el0(&self) -> Flow {
         if self.el3_priority() && self.mdcr_el3_tpm {
@@ -379,7 +379,7 @@ impl Machine {
         }
     }
 
-    /// EL2 is alike on pages 000 and 001.
+    /// EL2 is alike on the pages of PMSWINC_EL0 and PMEVCNTR<m>_EL0.
     fn pmu_at_el2(&self) -> Flow {
         if self.el3_priority() && self.mdcr_el3_tpm {
             Undefined
@@ -432,7 +432,7 @@ impl Machine {
     }
 }
 
-// Page 001, PMEVCNTR<m>_EL0.
+// Arm's page of PMEVCNTR<m>_EL0: MODEL U1, U2, T1 to T10 and G1 to G5.
 impl Machine {
     fn mrs_pmevcntr_at_el0(&self, m: u8) -> Flow {
         if self.el3_priority() && self.mdcr_el3_tpm {
@@ -471,8 +471,9 @@ impl Machine {
         }
     }
 
-    /// The common rest at EL0 and EL1. Where FGT is missing, 01 chooses the
-    /// trap for a counter that is implemented but not accessible.
+    /// MODEL T4 to T6: the common rest at EL0 and EL1. Where FGT is missing,
+    /// the page leaves open what becomes of a counter that is implemented but
+    /// not accessible; T5 traps it.
     fn pmevcntr_after_fgt(&self, m: u8) -> Flow {
         if self.el2_enabled && self.mdcr_el2_tpm {
             Trap(EL2)
@@ -485,7 +486,8 @@ impl Machine {
         }
     }
 
-    /// MRS and MSR. Where FGT is missing, 01 chooses undefined for m >= N.
+    /// MRS and MSR. MODEL U2: m >= N is undefined, also where FGT is missing
+    /// and the page leaves a choice.
     fn pmevcntr_flow(&self, m: u8, read: bool) -> Flow {
         if !self.pmuv3 || m >= self.n {
             return Undefined;
@@ -523,7 +525,7 @@ impl Machine {
     }
 }
 
-// Page 004, PMICNTR_EL0.
+// Arm's page of PMICNTR_EL0: MODEL U5, I1 to I8, T9, T10 and G6.
 impl Machine {
     fn pmicntr_at_el0(&self, npmicntr: bool) -> Flow {
         if self.el3_priority() && !self.enpm2 {
@@ -665,7 +667,7 @@ impl Machine {
 /// Offset of the external PMCNTENSET_EL0.
 const PMCNTENSET: u16 = 0xC00;
 
-// Page 002, the external PMCNTENSET_EL0, and ticks.
+// Arm's page of the external PMCNTENSET_EL0, and ticks: MODEL E1 to E8, K1, K2.
 impl Machine {
     /// Tests that external reads and writes share; an answer ends the access.
     fn external_tests(&self, offset: u16) -> Option<Answer> {

@@ -1,6 +1,6 @@
-//! The notation of document 01 for sessions: hexadecimal bytes, and `v:n` for
-//! a value of 8 bytes, little-endian, n decimal or 0x and hexadecimal. `#`
-//! starts a comment. Assembling what was disassembled gives the same bytes.
+//! The notation of docs/SESSIONS.md: hexadecimal bytes, and `v:n` for a value
+//! of 8 bytes, little-endian, n decimal or 0x and hexadecimal. `#` starts a
+//! comment. Assembling what was disassembled gives the same bytes.
 
 use crate::model::{Move, Register};
 use crate::session::{parse, Command, Parsed};

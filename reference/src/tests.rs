@@ -1,6 +1,7 @@
-//! Tests: the worked session, the soundings P1 to P11 through sessions, the
-//! limit, the round trip of the notation, the examples, and the order of traps
-//! written a second time as the list of rules in document 01.
+//! Tests: the worked session (MODEL S8), the worked examples (MODEL P1 to P11)
+//! through sessions, the limit, the round trip of the notation, the examples,
+//! and the orders of traps written a second time as the tables that they are
+//! (MODEL T1 to T6 and I1 to I6).
 
 use crate::generate::{self, Rng};
 use crate::model::{Answer, Machine};
@@ -12,7 +13,7 @@ fn run_text(text: &str) -> String {
     run(&assemble(text).expect("notation"))
 }
 
-/// The start of the soundings.
+/// MODEL P0: what the worked examples start from.
 const GIVEN: &str = "01 00 v:1 01 01 v:1 01 02 v:1 01 04 v:1 01 08 v:1 01 09 v:1
     01 10 v:1 01 38 v:1 01 3B v:1 01 0C v:6 01 27 v:4 01 20 v:1 ";
 
@@ -101,6 +102,7 @@ fn p09() {
     assert_eq!(sound(text), ["value 0000000000000001 2"]);
 }
 
+/// MODEL P10: counter 5 stands in the place of counter 4.
 #[test]
 fn p10() {
     let read = "02 01 03 A2 E8 3B D5 v:0";
@@ -153,9 +155,9 @@ fn demanded(text: &str) -> String {
     let mut output = String::new();
     let mut position = 0;
     for line in text.lines() {
-        let (code, comment) = line.split_once('#').unwrap_or((line, ""));
-        let answer = match comment.strip_prefix('>') {
-            Some(answer) => answer.trim(),
+        let code = line.split('#').next().unwrap_or("");
+        let answer = match line.split_once("#>") {
+            Some((_, answer)) => answer.trim(),
             None if !code.trim().is_empty() => "ok",
             None => continue,
         };
@@ -206,7 +208,7 @@ fn random_machine(rng: &mut Rng) -> Machine {
     }
 }
 
-/// "Order of traps" of 01 for PMEVCNTR (with m) and PMSWINC (without), as a
+/// MODEL U2, U4 and T1 to T6: PMEVCNTR (with m) and PMSWINC (without), as a
 /// list: 0 passes, 1 to 3 trap, 9 is undefined.
 fn rules(r: &Machine, m: Option<u8>, read: bool) -> u8 {
     let low = r.el <= 1;
@@ -239,7 +241,7 @@ fn rules(r: &Machine, m: Option<u8>, read: bool) -> u8 {
     list.iter().find(|(applies, _)| *applies).map_or(0, |(_, result)| *result)
 }
 
-/// The same for PMICNTR.
+/// MODEL U5 and I1 to I6: the same for PMICNTR.
 fn pmicntr_rules(r: &Machine, read: bool) -> u8 {
     let low = r.el2_enabled && r.el <= 1;
     let fine = low && r.fgt2 && !(r.el == 0 && r.e2h && r.tge);

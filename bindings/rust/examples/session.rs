@@ -7,5 +7,7 @@ fn main() -> io::Result<()> {
     io::stdin().read_to_end(&mut input)?;
     let mut out = vec![0; pmu::ROOM];
     let lines = pmu::session(&input, &mut out).expect("a buffer of ROOM bytes");
-    io::stdout().write_all(lines)
+    let mut stdout = io::stdout();
+    stdout.write_all(lines)?;
+    stdout.flush()
 }

@@ -21,13 +21,13 @@ use Rattle.rules.specs.Isolation.{SameExcept, Kept, Named, Start, fromLevels, f
 use Rattle.rules.specs.Isolation.{hpmnHides, pmuacrHides, f0Hides}
 use Rattle.rules.specs.Step.{Access}
 
--- An assertion of the logic, in the model m of the logic and of the machine, holds of some resource. Where it states a plain
--- fact, the fact is true.
+-- MODEL M10: an assertion of the logic, in the model m of the logic and of the machine, holds of some resource. Where it
+-- states a plain fact, the fact is true
 abbrev pub Holds : (m : World) → Pr m → Type 1
 Holds m p = sProp·Sat (m .𝓤 .op) p
 
--- The contract c of a function with the signature T holds of a call: with the arguments a, the result z, and the last values ws
--- of what is lent to it, what the contract ensures holds if what it requires does.
+-- MODEL M10: the contract c of a function with the signature T holds of a call: with the arguments a, the result z, and the
+-- last values ws of what is lent to it, what the contract ensures holds if what it requires does
 abbrev pub Obeyed :
     (m : World) (T : Ended)
     → Clauses (m .𝓤) T
@@ -37,22 +37,23 @@ abbrev pub Obeyed :
 Obeyed m T c κs a ws z =
     (g : c κs a .ghost) → Holds m (c κs a .requires g) → Holds m (c κs a .ensures g z (atExit T κs a ws))
 
--- A reference that is passed to a call: its lifetime, where it points, and the name under which its value is tracked.
+-- MODEL M10: a reference that is passed to a call: its lifetime, where it points, and the name under which its value is
+-- tracked
 pub record Reference : Type 0 where
   pub lifetime : Lft
   pub ptr : ℕ × ℕ
   pub name : GName
 
--- the reference, while the value x is behind it
+-- MODEL M10: the reference, while the value x is behind it
 abbrev pub to : {X : Type 0} → Reference → X → RefT X
 to p x = record { ptr = p .ptr; name = p .name; now = x }
 
--- For a step: that a call with this word and this operand, from this record, may give this answer and this record.
+-- MODEL M10: for a step, that a call with this word and this operand, from this record, may give this answer and this record
 abbrev pub MayGive : Type 2
 MayGive = ℕ → ℕ → Machine → Answer → Machine → Type 1
 
--- One call after another, each on the record that the one before it left, with the level put to the access's own: the
--- accesses, the record at the start, the answers in order, and the record at the end.
+-- MODEL M2 and M10: one call after another, each on the record that the one before it left, with the level put to the access's
+-- own: the accesses, the record at the start, the answers in order, and the record at the end
 pub data Calls (call : MayGive) : List Access → Machine → List Answer → Machine → Type 1 where
   none : {r : Machine} → Calls call [] r [] r
   next :
@@ -61,15 +62,15 @@ pub data Calls (call : MayGive) : List Access → Machine → List Answer → Ma
       → Calls call rest left answers after
       → Calls call (a ∷ rest) r (answer ∷ answers) after
 
--- What `Isolated` of specs/Isolation says of `run`, of two runs of calls: their answers are equal, so are the records after them
--- but for the counters named, and each run has kept those.
+-- MODEL M5, M6 and M10: what `Isolated` of specs/Isolation says of `run`, of two runs of calls: their answers are equal, so
+-- are the records after them but for the counters named, and each run has kept those
 pub record AnsweredAlike (x : Named) (r₁ r₂ after₁ after₂ : Machine) (answers₁ answers₂ : List Answer) : Type 0 where
   pub answers : answers₁ ≡ answers₂
   pub same : SameExcept x after₁ after₂
   pub kept₁ : Kept x r₁ after₁
   pub kept₂ : Kept x r₂ after₂
 
--- `Claim` of specs/Isolation, of all runs of calls
+-- MODEL M10: `Claim` of specs/Isolation, of all runs of calls
 abbrev pub CallsClaim : MayGive → ℕ → (Settings → Named) → (Settings → Bool) → Type 1
 CallsClaim call top named when =
     (r₁ r₂ : Machine) (accesses : List Access)
@@ -83,7 +84,7 @@ CallsClaim call top named when =
     → Calls call accesses r₂ answers₂ after₂
     → AnsweredAlike (named (r₁ .settings)) r₁ r₂ after₁ after₂ answers₁ answers₂
 
--- demand 3, whole, of the calls of a step
+-- MODEL M7 to M10: demand 3, whole, of the calls of a step
 pub record CallsNoninterference (call : MayGive) : Type 1 where
   pub hpmn : CallsClaim call 1 fromHpmn hpmnHides
   pub pmuacr : CallsClaim call 0 withoutP pmuacrHides

@@ -9,12 +9,14 @@ use Rattle.rules.specs.declared.Decision.{Decision}
 use Rattle.rules.specs.Apply.{apply}
 use Rattle.access.specs.declared.Said.{Said}
 
--- what is said and what the counters then hold is the outcome; level, settings and event numbers stay with the caller
+-- MODEL X4: what is said and what the counters then hold is the outcome; level, settings and event numbers stay with the
+-- caller
 pub record Lent (o : Outcome) (said : Said) (after : List ℕ) : Type 0 where
   pub answer : said .answer ≡ o .answer
   pub instructions : said .instructions ≡ o .machine .instructions
   pub counters : after ≡ o .machine .counters
 
--- a decision applied to the record with these settings, event numbers, counters and instruction counter, whatever its level
+-- MODEL X4: a decision applied to the record with these settings, event numbers, counters and instruction counter, whatever
+-- its level
 abbrev pub Applied : Decision → Settings → List ℕ → List ℕ → ℕ → Said → List ℕ → Type 0
 Applied d s e c i said after = (l : ℕ) → Lent (apply d (machineOf l s e c i)) said after

@@ -20,38 +20,38 @@ use Rattle.answer.specs.declared.Refusal.the-variants.{
   FeatureMissing,
 }
 
--- 01, "Refused because of the input" (1 to 6) and "Refused because of the state" (10 to 17)
+-- MODEL R0: a refusal's number. Below, each with the clause of its number
 abbrev pub refusalNumber : Refusal → ℕ
--- the command byte is unknown
+-- MODEL R1: no such command
 refusalNumber UnknownCommand = 1
--- the session ends inside a command, or before an end command
+-- MODEL R2: the bytes end too early
 refusalNumber Truncated = 2
--- the field number is not among document 01's
+-- MODEL R3: no such field
 refusalNumber UnknownField = 3
--- a value exceeds its field's largest, or a flag operand exceeds 1
+-- MODEL R4: above the field's largest value, or a flag above 1
 refusalNumber ValueTooLarge = 4
--- the level operand exceeds 3
+-- MODEL R5: no such level
 refusalNumber LevelTooLarge = 5
--- the session is over 4,096 bytes
+-- MODEL R6: too long a session
 refusalNumber SessionTooLong = 6
--- a field or the level exceeds its largest
+-- MODEL R10: the record holds a value above its largest
 refusalNumber FieldTooLarge = 10
--- level is 3 and EL3 missing, or 2 and EL2 not enabled
+-- MODEL R11: a level that is not to be had
 refusalNumber LevelUnavailable = 11
--- EL2 enabled but not implemented
+-- MODEL R12: EL2 enabled without being there
 refusalNumber El2Unimplemented = 12
--- EL2 implemented and HPMN > N
+-- MODEL R13: HPMN above N
 refusalNumber HpmnAboveN = 13
--- EL2 implemented, HPMN is 0 and HPMN0 missing
+-- MODEL R14: HPMN 0 without HPMN0
 refusalNumber HpmnZero = 14
--- p5 missing and some counter 0 to 30 is 2^32 or more
+-- MODEL R15: more than 32 bits without p5
 refusalNumber CounterTooWide = 15
--- level 1, EL2 enabled and TGE 1
+-- MODEL R16: level 1 under TGE
 refusalNumber TgeAtEl1 = 16
--- p5, p9 or ICNTR without PMUv3, or p9 without p5
+-- MODEL R17: a feature without the one that it builds on
 refusalNumber FeatureMissing = 17
 
--- 01, "A trap answers the target level": the level in digits
+-- MODEL L4: the level that takes a trap, as a digit
 abbrev pub levelNumber : Level → ℕ
 levelNumber El1 = 1
 levelNumber El2 = 2

@@ -2,7 +2,7 @@
 ghost use mathlib.Core.Path.{_≡_};
 ghost use Rattle.answer.specs.Numbers.{refusalNumber, levelNumber};
 
-// Why an input or a record is refused. specs/Numbers.antt has document 01's number of each.
+// Why an input or a record is refused (MODEL R). specs/Numbers.antt has the number of each.
 pub enum Refusal {
     UnknownCommand,
     Truncated,
@@ -47,7 +47,7 @@ pub enum Answer {
     Refused(Refusal),
 }
 
-// Document 01's number of a refusal.
+// MODEL R0. The number of a refusal.
 pub fn refusal_number(r: Refusal) -> u8
     ensures { λ n. ⌜ n ≡ refusalNumber r ⌝ }
 {

@@ -1,4 +1,4 @@
--- 01, "Sessions": "Command bytes are hexadecimal, operands little-endian".
+-- Commands out of a session's bytes: which there are, how many bytes each takes, and which is the last.
 use Prim.Native.Nat.{ℕ, _+_, _*_}
 use mathlib.Core.Bool.{Bool, true, false, cond}
 use mathlib.Core.List.{List, [], _∷_}
@@ -7,17 +7,16 @@ use lib.ListN.{length, take, drop}
 use Rattle.answer.specs.declared.Refusal.the-variants.{UnknownCommand, Truncated}
 use Rattle.command.specs.declared.Command.{Command}
 
--- the number that little-endian bytes hold
+-- MODEL S7: the number that little-endian bytes hold
 abbrev pub little : List ℕ → ℕ
 little [] = 0
 little (b ∷ rest) = b + 256 * little rest
 
--- the number in count bytes from a place
+-- MODEL S1: the number in count bytes from a place
 abbrev pub operand : List ℕ → ℕ → ℕ → ℕ
 operand s at count = little (take count (drop at s))
 
--- the bytes of the operands behind each command byte: "00 end; 01 set: field 1 byte, value 8; 02 level: 1; 03 access: word 4,
--- operand 8; 04 external read: offset 2; 05 external write: offset 2, value 8; 06 tick: prohibited flag 1"
+-- MODEL S1: the bytes of the operands behind each command byte
 abbrev pub operandBytes : ℕ → ℕ
 operandBytes c =
     cond (eqb c 0x01) 9
@@ -27,11 +26,11 @@ operandBytes c =
     (cond (eqb c 0x05) 10
     (cond (eqb c 0x06) 1 0)))))
 
--- refusal 1: "the command byte is unknown"
+-- MODEL R1: no command has this byte
 abbrev pub isUnknown : ℕ → Bool
 isUnknown c = ltb 0x06 c
 
--- the command with byte c and the operands that follow it
+-- MODEL S1: the command with byte c and the operands that follow it
 abbrev pub commandWith : ℕ → List ℕ → Command
 commandWith c s =
     cond (eqb c 0x01) (Command.Set (operand s 0 1) (operand s 1 8))
@@ -41,7 +40,7 @@ commandWith c s =
     (cond (eqb c 0x05) (Command.Write (operand s 0 2) (operand s 2 8))
     (cond (eqb c 0x06) (Command.Tick (operand s 0 1)) Command.End)))))
 
--- the command that the bytes begin with: refusal 1, then 2, "the session ends inside a command, or before an end command"
+-- MODEL R1, R2 and V1: the command that the bytes begin with, unless refused with 1, else with 2
 unfoldable pub commandOf : List ℕ → Command
 commandOf [] = Command.Bad Truncated
 commandOf (c ∷ rest) =
@@ -49,12 +48,12 @@ commandOf (c ∷ rest) =
     (cond (ltb (length rest) (operandBytes c)) (Command.Bad Truncated)
     (commandWith c rest))
 
--- how many bytes the command at the front takes, its own among them
+-- MODEL S1: how many bytes the command at the front takes, its own among them
 abbrev pub sizeAt : List ℕ → ℕ
 sizeAt [] = 0
 sizeAt (c ∷ rest) = 1 + operandBytes c
 
--- "After 1, 2 or 6 reading ends. After 3, 4, 5 it goes on." "Bytes after the end command are ignored."
+-- MODEL V2 and S3: reading stops behind this command
 abbrev pub isLast : Command → Bool
 isLast Command.End = true
 isLast (Command.Set f v) = false
@@ -65,7 +64,7 @@ isLast (Command.Write o x) = false
 isLast (Command.Tick p) = false
 isLast (Command.Bad r) = true
 
--- the command is an access
+-- MODEL S1: the command is an access
 abbrev pub isAccess : Command → Bool
 isAccess Command.End = false
 isAccess (Command.Set f v) = false

@@ -1,20 +1,20 @@
--- The fields of the machine record (01, "The machine record"): their numbers, and the largest value of each; the largest level.
+-- The fields of the machine record: their numbers, and the largest value of each; the largest level.
 use Prim.Native.Nat.{ℕ, _-_, _^_}
 use mathlib.Core.Bool.{Bool, _&&_, _||_}
 use mathlib.Core.List.{List, [], _∷_}
 use lib.Dec.{leb, ltb, eqb}
 use Rattle.machine.specs.First.{first}
 
--- low to high, both included
+-- MODEL F1: a number from low to high, both included
 abbrev pub within : ℕ → ℕ → ℕ → Bool
 within low high f = leb low f && leb f high
 
--- "Fields are one bit unless a largest value follows": the numbers of the one-bit fields
+-- MODEL F2 to F13: the numbers of the one-bit fields
 abbrev pub isFlag : ℕ → Bool
 isFlag f = leb f 0x0B || within 0x10 0x12 f || within 0x20 0x26 f || within 0x28 0x31 f || eqb f 0x33 || within 0x38 0x3C f
 
--- the fields that have the number f, if any, and their largest value: flags; N and HPMN; the P bits; the counter enables; event
--- numbers; counters
+-- MODEL F1: the kinds of fields, by their numbers, and the largest value of each: flags; N and HPMN; the P bits; the counter
+-- enables; event numbers; counters
 abbrev pub kinds : ℕ → List (Bool × ℕ)
 kinds f =
     (isFlag f, 1)
@@ -25,14 +25,14 @@ kinds f =
     ∷ (within 0x60 0x7F f, 2 ^ 64 - 1)
     ∷ []
 
--- the largest value of the field with this number, and 0 where no field has it
+-- MODEL F1 and F19: the largest value of the field with this number, and 0 where no field has it
 unfoldable pub largest : ℕ → ℕ
 largest f = first (kinds f) 0
 
--- the number is one of a field
+-- MODEL F19: the number is one of a field
 abbrev pub isField : ℕ → Bool
 isField f = ltb 0 (largest f)
 
--- "The exception level, 0 to 3": the largest
+-- MODEL F17: the largest level
 abbrev pub largestLevel : ℕ
 largestLevel = 3

@@ -20,15 +20,15 @@ use Rattle.machine.specs.declared.External.{External}
 use Rattle.machine.specs.declared.Settings.{Settings}
 use Rattle.machine.specs.declared.Machine.{Machine}
 
--- the one-bit field number k after v is stored to field f: v where f is k, else as it was
+-- MODEL F20: the one-bit field number k after v is stored to field f: v where f is k, else as it was
 abbrev pub flag : ℕ → ℕ → ℕ → Bool → Bool
 flag k f v old = (eqb f k && eqb v 1) || (not (eqb f k) && old)
 
--- the same of a field that holds a number
+-- MODEL F20: the same of a field that holds a number
 abbrev pub number : ℕ → ℕ → ℕ → ℕ → ℕ
 number k f v old = cond (eqb f k) v old
 
--- fields 00 to 0C
+-- MODEL F2: fields 00 to 0C
 unfoldable pub storeFeatures : ℕ → ℕ → Features → Features
 storeFeatures f v s =
     record {
@@ -47,7 +47,7 @@ storeFeatures f v s =
       n = number 0x0C f v (s .n);
     }
 
--- fields 10 to 12
+-- MODEL F3: fields 10 to 12
 abbrev pub storeExecution : ℕ → ℕ → Execution → Execution
 storeExecution f v s =
     record {
@@ -56,7 +56,7 @@ storeExecution f v s =
       sdd = flag 0x12 f v (s .sdd);
     }
 
--- fields 20 to 23 and 31
+-- MODEL F4: fields 20 to 23 and 31
 abbrev pub storePmuserenr : ℕ → ℕ → Pmuserenr → Pmuserenr
 storePmuserenr f v s =
     record {
@@ -67,27 +67,27 @@ storePmuserenr f v s =
       ir = flag 0x31 f v (s .ir);
     }
 
--- fields 24 and 25
+-- MODEL F5: fields 24 and 25
 abbrev pub storeHcr : ℕ → ℕ → Hcr → Hcr
 storeHcr f v s = record { e2h = flag 0x24 f v (s .e2h); tge = flag 0x25 f v (s .tge) }
 
--- fields 26 and 27
+-- MODEL F6: fields 26 and 27
 unfoldable pub storeMdcr2 : ℕ → ℕ → Mdcr2 → Mdcr2
 storeMdcr2 f v s = record { tpm = flag 0x26 f v (s .tpm); hpmn = number 0x27 f v (s .hpmn) }
 
--- fields 28 and 29
+-- MODEL F7: fields 28 and 29
 abbrev pub storeMdcr3 : ℕ → ℕ → Mdcr3 → Mdcr3
 storeMdcr3 f v s = record { tpm = flag 0x28 f v (s .tpm); enpm2 = flag 0x29 f v (s .enpm2) }
 
--- fields 2A and 2B
+-- MODEL F8: fields 2A and 2B
 abbrev pub storeScr : ℕ → ℕ → Scr → Scr
 storeScr f v s = record { fgten = flag 0x2A f v (s .fgten); fgten2 = flag 0x2B f v (s .fgten2) }
 
--- fields 2C and 2F
+-- MODEL F9: fields 2C and 2F
 abbrev pub storeHdfgrtr : ℕ → ℕ → Hdfgrtr → Hdfgrtr
 storeHdfgrtr f v s = record { pmevcntrn = flag 0x2C f v (s .pmevcntrn); npmicntr = flag 0x2F f v (s .npmicntr) }
 
--- fields 2D, 2E and 30
+-- MODEL F10: fields 2D, 2E and 30
 abbrev pub storeHdfgwtr : ℕ → ℕ → Hdfgwtr → Hdfgwtr
 storeHdfgwtr f v s =
     record {
@@ -96,11 +96,11 @@ storeHdfgwtr f v s =
       npmicntr = flag 0x30 f v (s .npmicntr);
     }
 
--- fields 32 and 33
+-- MODEL F11: fields 32 and 33
 unfoldable pub storePmuacr : ℕ → ℕ → Pmuacr → Pmuacr
 storePmuacr f v s = record { p = number 0x32 f v (s .p); f0 = flag 0x33 f v (s .f0) }
 
--- fields 38 to 3C
+-- MODEL F13: fields 38 to 3C
 abbrev pub storeExternal : ℕ → ℕ → External → External
 storeExternal f v s =
     record {
@@ -111,7 +111,7 @@ storeExternal f v s =
       softwarelock = flag 0x3C f v (s .softwarelock);
     }
 
--- fields 00 to 3C; the counter enables are field 34
+-- MODEL F2 to F13: fields 00 to 3C; the counter enables (MODEL F12) are field 34
 unfoldable pub storeSettings : ℕ → ℕ → Settings → Settings
 storeSettings f v s =
     record {
@@ -129,11 +129,11 @@ storeSettings f v s =
       external = storeExternal f v (s .external);
     }
 
--- a list of 31 numbers whose fields begin at first: element f - first takes v
+-- MODEL F14 and F15: a list of 31 numbers whose fields begin at first: element f - first takes v
 abbrev pub storeList : ℕ → ℕ → ℕ → List ℕ → List ℕ
 storeList first f v l = cond (within first (first + 30) f) (set l (f - first) v) l
 
--- every field: event numbers are 40 to 5E, event counters 60 to 7E, the instruction counter 7F
+-- MODEL F20: every field; event numbers are 40 to 5E, event counters 60 to 7E, the instruction counter (MODEL F16) 7F
 unfoldable pub store : ℕ → ℕ → Machine → Machine
 store f v m =
     record {

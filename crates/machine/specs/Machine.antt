@@ -7,7 +7,7 @@ use Rattle.machine.specs.declared.Features.{Features}
 use Rattle.machine.specs.declared.Settings.{Settings}
 use Rattle.machine.specs.declared.Machine.{Machine}
 
--- what the processor implements, in the fresh record
+-- MODEL F2 and F18: what the processor implements, in the fresh record
 abbrev pub freshFeatures : Features
 freshFeatures =
     record {
@@ -26,7 +26,7 @@ freshFeatures =
       n = 0;
     }
 
--- the settings of the fresh record
+-- MODEL F3 to F13 and F18: the settings of the fresh record
 abbrev pub freshSettings : Settings
 freshSettings =
     record {
@@ -44,7 +44,7 @@ freshSettings =
       external = record { powered = false; doublelock = false; oslock = false; allowed = false; softwarelock = false };
     }
 
--- 01: "Fresh: everything 0."
+-- MODEL F18: the fresh record, in which nothing is but 0
 abbrev pub fresh : Machine
 fresh =
     record {
@@ -55,11 +55,11 @@ fresh =
       instructions = 0;
     }
 
--- the record with these parts
+-- MODEL F1: the record with these parts
 abbrev pub machineOf : ℕ → Settings → List ℕ → List ℕ → ℕ → Machine
 machineOf l s e c i = record { level = l; settings = s; events = e; counters = c; instructions = i }
 
--- the record with its level put to l
+-- MODEL F17 and F20: the record with its level put to l
 abbrev pub withLevel : ℕ → Machine → Machine
 withLevel l m =
     record {
@@ -70,7 +70,7 @@ withLevel l m =
       instructions = m .instructions;
     }
 
--- the record with these event counters
+-- MODEL F15: the record with these event counters
 abbrev pub withCounters : List ℕ → Machine → Machine
 withCounters c m =
     record {
@@ -81,7 +81,7 @@ withCounters c m =
       instructions = m .instructions;
     }
 
--- the record with this instruction counter
+-- MODEL F16: the record with this instruction counter
 abbrev pub withInstructions : ℕ → Machine → Machine
 withInstructions i m =
     record {

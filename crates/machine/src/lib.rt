@@ -1,4 +1,4 @@
-// The machine record of document 01: one struct for each register or group of fields, and below it what it is in the fresh
+// The machine record (MODEL F): one struct for each register or group of fields, and below it what it is in the fresh
 // record. The crate `fields` has the number and the largest value of each field.
 pub mod fresh; // fresh.rt: the fresh record
 

@@ -42,11 +42,11 @@ unfolding
     perform performAll setAll usual start actual expected worked misreadings further
 hold = (refl, refl, refl)
 
--- 01, "Soundings to prove"
+-- MODEL P1 to P11
 pub worked-hold : Hold worked
 worked-hold = hold .0
 
--- 01, "Readings that would run aground"
+-- MODEL Q1 to Q4
 pub misreadings-hold : Hold misreadings
 misreadings-hold = hold .1
 

@@ -15,38 +15,39 @@ use Rattle.rules.specs.declared.Decision.the-variants.{Says, Read, Write
 use Rattle.rules.specs.declared.Place.{Place}
 use Rattle.rules.specs.declared.Place.the-variants.{Counter, Instructions}
 
--- the bits of an event counter: 64 with p5, else 32
+-- MODEL G1: the bits of an event counter
 abbrev pub width : Bool → ℕ
 width p5 = cond p5 64 32
 
--- one more, "wraps at 2^32 without p5, at 2^64 with it"
+-- MODEL G10 and K2: one more, in a width of k bits
 abbrev pub plusOne : ℕ → ℕ → ℕ
 plusOne k y = (y + 1) % 2 ^ k
 
--- f at each place of a list, from place i on
+-- MODEL G8: f at each place of a list, from place i on
 abbrev pub mapFrom : (ℕ → ℕ → ℕ) → ℕ → List ℕ → List ℕ
 mapFrom f i [] = []
 mapFrom f i (y ∷ ys) = f i y ∷ mapFrom f (suc i) ys
 
--- PMSWINC: counter m really takes an increment where its bit of the mask is 1 and its event number is 0, the software increment
+-- MODEL G8: counter m really takes an increment where its bit of the mask is 1 and its event number is 0, the software
+-- increment
 abbrev pub added : List ℕ → ℕ → ℕ → Bool
 added events mask m = bit m mask && eqb (getD events m 0) 0
 
--- and what it then holds
+-- MODEL G8 and G10: what counter m then holds
 unfoldable pub incremented : Bool → List ℕ → ℕ → ℕ → ℕ → ℕ
 incremented p5 events mask m y = cond (added events mask m) (plusOne (width p5) y) y
 
--- what a place holds
+-- MODEL G2: what a place holds
 abbrev pub valueAt : Place → Machine → ℕ
 valueAt (Counter m) r = getD (r .counters) m 0
 valueAt Instructions r = r .instructions
 
--- the record with x written to a place. "A write without p5 stores the low 32 bits."
+-- MODEL G1 and G2: the record with x written to a place, an event counter taking the bits of its width
 abbrev pub withValue : Place → ℕ → Machine → Machine
 withValue (Counter m) x r = withCounters (set (r .counters) m (x % 2 ^ width (r .settings .features .p5))) r
 withValue Instructions x r = withInstructions x r
 
--- what a decision answers, and the record afterwards
+-- MODEL A3: what a decision answers, and the record afterwards
 unfoldable pub apply : Decision → Machine → Outcome
 apply (Says a) r = says a r
 apply (Read place rt) r = says (Answer.Mrs (valueAt place r) rt) r

@@ -13,14 +13,14 @@ unfoldable pub use Rattle.fields.specs.Set.{setAll}
 use Rattle.rules.specs.Step.{step, Run}
 use Rattle.rules.specs.External.{externalRead, externalWrite, tick}
 
--- one thing done to a record
+-- MODEL P0: one thing done to a record
 pub data Action : Type 0 where
   access : ℕ → ℕ → Action
   read : ℕ → Action
   write : ℕ → ℕ → Action
   ticks : Bool → Action
 
--- what is set before, field and value; the level; what is done; what it answers; and what is then set
+-- MODEL P0: what is set before, field and value; the level; what is done; what it answers; and what is then set
 pub record Example : Type 0 where
   pub given : List (ℕ × ℕ)
   pub level : ℕ
@@ -28,14 +28,14 @@ pub record Example : Type 0 where
   pub answers : List Answer
   pub after : List (ℕ × ℕ)
 
--- what one thing done answers, and the record after it
+-- MODEL P0: what one thing done answers, and the record after it
 unfoldable pub perform : Action → Machine → Outcome
 perform (access w x) r = step w x r
 perform (read o) r = externalRead o r
 perform (write o x) r = externalWrite o x r
 perform (ticks p) r = tick p r
 
--- what they answer, in order, and the record after them
+-- MODEL P0: what they answer, in order, and the record after them
 unfoldable pub performAll : List Action → Machine → Run
 performAll [] r = record { answers = []; machine = r }
 performAll (m ∷ rest) r =
@@ -43,18 +43,17 @@ performAll (m ∷ rest) r =
     let then = performAll rest (o .machine) in
     record { answers = o .answer ∷ then .answers; machine = then .machine }
 
--- none of these set commands is refused
+-- MODEL P0: none of these set commands is refused
 unfoldable pub valid : List (ℕ × ℕ) → Bool
 valid [] = true
 valid (s ∷ rest) = isField (s .0) && not (ltb (largest (s .0)) (s .1)) && valid rest
 
--- none of the examples' set commands is refused
+-- MODEL P0: none of the examples' set commands is refused
 unfoldable pub allValid : List Example → Bool
 allValid [] = true
 allValid (e ∷ rest) = valid (e .given ++ e .after) && allValid rest
 
--- "Unless said: PMUv3, p5, p9, FGT, EXT64, EL2 implemented and enabled, powered, external access allowed, N 6, HPMN 4, EN 1,
--- other bits 0."
+-- MODEL P0: what is set before an example's own settings
 abbrev pub usualSettings : List (ℕ × ℕ)
 usualSettings =
     (0x00, 1)
@@ -71,26 +70,26 @@ usualSettings =
     ∷ (0x20, 1)
     ∷ []
 
--- the record that an example starts from, before its own settings
+-- MODEL P0: the record with these settings
 unfoldable pub usual : Machine
 usual = setAll usualSettings fresh
 
--- the record that an example's actions are done to
+-- MODEL P0: the record that an example's actions are done to
 unfoldable pub start : Example → Machine
 start e = withLevel (e .level) (setAll (e .given) usual)
 
--- what the definitions give: every answer, and the whole record afterwards
+-- MODEL P0: what the definitions give: every answer, and the whole record afterwards
 unfoldable pub actual : Example → Run
 actual e = performAll (e .actions) (start e)
 
--- what the example says
+-- MODEL P0: what the example says
 unfoldable pub expected : Example → Run
 expected e = record { answers = e .answers; machine = setAll (e .after) (start e) }
 
--- a trap to this level with this syndrome
+-- MODEL T11: a trap to this level with this syndrome
 abbrev pub trap : Level → ℕ → Answer
 trap l s = Answer.Trap (record { target = l; syndrome = s })
 
--- MSR PMSWINC_EL0, X1
+-- MODEL W5: MSR PMSWINC_EL0, X1
 abbrev pub swinc : ℕ → Action
 swinc x = access 0xD51B9C81 x

@@ -1,5 +1,5 @@
--- 01, "Permitted accesses": external accesses and the tick. What each offset's register shows and sets; how far an access at
--- an offset gets, where each test stands once; what is then to be done, in one place for all three; and the doing.
+-- External accesses and the tick. What each offset's register shows and sets; how far an access at an offset gets, where each
+-- test stands once; what is then to be done, in one place for all three; and the doing.
 use Prim.Native.Nat.{ℕ}
 use mathlib.Core.Bool.{Bool, true, false, cond, not, _&&_, _||_}
 use mathlib.Core.List.{List, [], _∷_}
@@ -25,37 +25,37 @@ use Rattle.rules.specs.declared.external.Reach.the-variants.{Other, Igno
 use Rattle.bits.specs.Bits.{bit, fromBits}
 use Rattle.rules.specs.Apply.{plusOne}
 
--- "neither EXT32 nor EXT64: reads 0, ignores writes"
+-- MODEL E2: the external interface is there
 abbrev pub present : Settings → Bool
 present s = s .features .ext32 || s .features .ext64
 
--- "Else double lock, core not powered, OS lock or access not allowed: `error`."
+-- MODEL E3: the access gets an error
 abbrev pub unreachable : Settings → Bool
 unreachable s =
     s .external .doublelock || not (s .external .powered) || s .external .oslock || not (s .external .allowed)
 
--- "The register is 64 bits wide with EXT64, p9 or ICNTR, else 32."
+-- MODEL E5: the width of the register
 abbrev pub externalWidth : Settings → ℕ
 externalWidth s = cond (s .features .ext64 || s .features .p9 || s .features .icntr) 64 32
 
--- "enable bits m < N" of the event counters 0 to 30, "bit 31, and bit 32 if ICNTR", as far as the register is wide
+-- MODEL E6: bit m is in reach
 abbrev pub shown : Settings → ℕ → Bool
 shown s m =
     ((ltb m 31 && ltb m (s .features .n)) || eqb m 31 || (eqb m 32 && s .features .icntr)) && ltb m (externalWidth s)
 
--- the bits of x that the register shows
+-- MODEL E6: the bits of x that are in reach
 unfoldable pub shownOf : Settings → ℕ → ℕ
 shownOf s x = fromBits 33 (λ m. shown s m && bit m x)
 
--- "A read shows enable bits .."
+-- MODEL E7: what a read shows of the counter enables
 abbrev pub enablesRead : Settings → ℕ
 enablesRead s = shownOf s (s .cnten)
 
--- "A write sets the 1 bits among these and clears none."
+-- MODEL E8: the counter enables after a write of x
 unfoldable pub enablesWritten : Settings → ℕ → ℕ
 enablesWritten s x = fromBits 33 (λ m. bit m (s .cnten) || (shown s m && bit m x))
 
--- what keeps an access from the register at its offset, the same for every register. "Software lock: writes are ignored."
+-- MODEL E2, E3 and E4: what keeps an access from the register at its offset, the same for every register
 abbrev pub obstacles : Bool → Settings → List (Bool × Reach)
 obstacles writes s =
     (not (present s), Ignored)
@@ -63,58 +63,57 @@ obstacles writes s =
     ∷ (writes && s .external .softwarelock, Ignored)
     ∷ []
 
--- how far an access at an offset gets: a row for each offset that has a register. "Other offsets answer `other`, tested before
--- all of this."
+-- MODEL E1: how far an access at an offset gets: a row for each offset that has a register
 unfoldable pub reach : Bool → ℕ → Settings → Reach
 reach writes offset s = first ((eqb offset 0xC00, first (obstacles writes s) Pmcntenset) ∷ []) Other
 
--- what a read answers that gets so far
+-- MODEL E1, E2, E3 and E7: what a read answers that gets so far
 abbrev pub readOf : Reach → Settings → Answer
 readOf Other s = Answer.Other
 readOf Ignored s = Answer.Value 0
 readOf Error s = Answer.Error
 readOf Pmcntenset s = Answer.Value (enablesRead s)
 
--- what a write of x does that gets so far
+-- MODEL E1 to E4 and E8: what a write of x does that gets so far
 abbrev pub writeOf : Reach → ℕ → Settings → Effect
 writeOf Other x s = Says Answer.Other
 writeOf Ignored x s = Says Answer.Ok
 writeOf Error x s = Says Answer.Error
 writeOf Pmcntenset x s = Enables (enablesWritten s x)
 
--- "A tick is one executed instruction: with ICNTR, enable bit 32 set and counting not prohibited, PMICNTR adds 1"
+-- MODEL K1: what a tick does
 abbrev pub tickOf : Bool → Settings → Effect
 tickOf prohibited s = cond (s .features .icntr && bit 32 (s .cnten) && not prohibited) Count (Says Answer.Ok)
 
--- what is requested of a consistent record: no counter is looked at
+-- MODEL E9: what is requested of a consistent record: no counter is looked at
 unfoldable pub effectOf : Request → Settings → Effect
 effectOf (Read offset) s = Says (readOf (reach false offset s) s)
 effectOf (Write offset x) s = writeOf (reach true offset s) x s
 effectOf (Tick prohibited) s = tickOf prohibited s
 
--- "before all else, every .. external access and tick tests the record, lowest number first"
+-- MODEL V3: a refused record comes before all else
 abbrev pub unlessRefusedBy : Verdict → Effect → Effect
 unlessRefusedBy Consistent e = e
 unlessRefusedBy (Refused n) e = Says (Answer.Refused n)
 
--- what is requested of any record
+-- MODEL E9 and V3: what is requested of any record
 abbrev pub judge : View → Request → Effect
 judge v q = unlessRefusedBy (verdictOf v) (effectOf q (v .settings))
 
--- what an effect answers and does to the record: the counter enables are field 34; PMICNTR is "wrapping at 2^64"
+-- MODEL E8, K1 and K2: what an effect answers and does to the record; the counter enables are field 34
 abbrev pub enact : Effect → Machine → Outcome
 enact (Says a) r = says a r
 enact (Enables e) r = done (store 0x34 e r)
 enact Count r = done (withInstructions (plusOne 64 (r .instructions)) r)
 
--- the external read at an offset
+-- MODEL E7: the external read at an offset
 unfoldable pub externalRead : ℕ → Machine → Outcome
 externalRead offset r = enact (judge (viewOf r) (Read offset)) r
 
--- the external write of x at an offset
+-- MODEL E8: the external write of x at an offset
 unfoldable pub externalWrite : ℕ → ℕ → Machine → Outcome
 externalWrite offset x r = enact (judge (viewOf r) (Write offset x)) r
 
--- the tick, while counting is prohibited or not
+-- MODEL K1: the tick, while counting is prohibited or not
 unfoldable pub tick : Bool → Machine → Outcome
 tick prohibited r = enact (judge (viewOf r) (Tick prohibited)) r

@@ -1,4 +1,4 @@
--- Examples for the rules that document 01's own do not reach, as data.
+-- Examples for the clauses that the worked ones do not reach, as data.
 use mathlib.Core.Bool.{true, false}
 use mathlib.Core.List.{List, [], _∷_}
 use Rattle.answer.specs.declared.Answer.{Answer}
@@ -8,9 +8,10 @@ use Rattle.answer.specs.declared.Refusal.the-variants.{CounterTooWide, TgeAtEl1
 use Rattle.rules.specs.Example.{Example, trap}
 use Rattle.rules.specs.Example.Action.{access, read, write, ticks}
 
+-- MODEL P12: for each of the clauses named below
 unfoldable pub further : List Example
 further =
-    -- other words: PMCR_EL0, and an instruction that moves no system register
+    -- MODEL W7: other words, PMCR_EL0 and an instruction that moves no system register
     record {
       given = [];
       level = 1;
@@ -18,7 +19,7 @@ further =
       answers = Answer.Other ∷ Answer.Other ∷ [];
       after = [];
     }
-    -- undefined at once: MRS of PMSWINC; without PMUv3; PMICNTR without ICNTR
+    -- MODEL U4, U1, U3, U5: MRS of PMSWINC; both registers without PMUv3; PMICNTR without ICNTR
     ∷ record { given = []; level = 2; actions = access 0xD53B9C81 0 ∷ []; answers = Answer.Undef ∷ []; after = [] }
     ∷ record {
       given = (0x00, 0) ∷ (0x01, 0) ∷ (0x02, 0) ∷ [];
@@ -28,7 +29,7 @@ further =
       after = [];
     }
     ∷ record { given = []; level = 2; actions = access 0xD53B9402 0 ∷ []; answers = Answer.Undef ∷ []; after = [] }
-    -- rule 1, before rule 2 and before rule 5; and rule 6 where Halted and SDD are 1
+    -- MODEL T1, T6, T10: T1 before T2 and before T5; and T6 where Halted and SDD are 1
     ∷ record {
       given = (0x0A, 1) ∷ (0x0B, 1) ∷ (0x11, 1) ∷ (0x12, 1) ∷ (0x28, 1) ∷ (0x20, 0) ∷ [];
       level = 0;
@@ -50,7 +51,7 @@ further =
       answers = Answer.Undef ∷ [];
       after = [];
     }
-    -- rule 3, each bit for its own access; with EL3 it needs FGTEn; not at level 0 with E2H and TGE
+    -- MODEL T3, T8, T9: each bit for its own access; with EL3 it needs FGTEn; not at level 0 with E2H and TGE
     ∷ record {
       given = (0x2C, 1) ∷ [];
       level = 1;
@@ -93,7 +94,7 @@ further =
       answers = Answer.Mrs 0 2 ∷ [];
       after = [];
     }
-    -- rule 4
+    -- MODEL T4: both registers
     ∷ record {
       given = (0x26, 1) ∷ [];
       level = 1;
@@ -101,7 +102,7 @@ further =
       answers = trap El2 0x6236F851 ∷ trap El2 0x6238E438 ∷ [];
       after = [];
     }
-    -- rule 2: a read with EN and ER 0; ER lets a read pass and no write
+    -- MODEL T2, T7: a read with EN and ER 0; ER lets a read pass and no write
     ∷ record {
       given = (0x20, 0) ∷ [];
       level = 0;
@@ -116,7 +117,7 @@ further =
       answers = Answer.Mrs 0 2 ∷ trap El1 0x6236F850 ∷ [];
       after = [];
     }
-    -- no rule is for level 3
+    -- MODEL T1 to T6: none is for level 3
     ∷ record {
       given = (0x0A, 1) ∷ (0x0B, 1) ∷ (0x11, 1) ∷ (0x12, 1) ∷ (0x20, 0) ∷ (0x26, 1) ∷ (0x28, 1) ∷ (0x2A, 1)
           ∷ (0x2C, 1) ∷ (0x2E, 1) ∷ (0x65, 9) ∷ [];
@@ -125,7 +126,7 @@ further =
       answers = Answer.Mrs 9 2 ∷ Answer.Ok ∷ [];
       after = (0x65, 10) ∷ [];
     }
-    -- a write with Rt 31, and one without p5
+    -- MODEL W8, G2: a write with Rt 31, and one without p5
     ∷ record {
       given = (0x63, 9) ∷ [];
       level = 1;
@@ -140,10 +141,10 @@ further =
       answers = Answer.Ok ∷ [];
       after = (0x63, 7) ∷ [];
     }
-    -- PMSWINC: SW 0 with the P bit 0, m >= N, and an event number other than 0
+    -- MODEL G9, G8: SW 0 with the P bit 0; m from N on; and an event number other than 0
     ∷ record { given = (0x23, 1) ∷ []; level = 0; actions = access 0xD51B9C81 8 ∷ []; answers = Answer.Ok ∷ []; after = [] }
     ∷ record { given = (0x41, 1) ∷ []; level = 2; actions = access 0xD51B9C81 66 ∷ []; answers = Answer.Ok ∷ []; after = [] }
-    -- PMICNTR: its first rule, before MDCR_EL2.TPM; FGTEn2; its fine-grained bits; MDCR_EL2.TPM; EnPM2; MDCR_EL3.TPM
+    -- MODEL I1, I2, I3, I7, I4, I5, I6: in this order, the first before MDCR_EL2.TPM
     ∷ record {
       given = (0x03, 1) ∷ (0x0A, 1) ∷ (0x0B, 1) ∷ (0x11, 1) ∷ (0x12, 1) ∷ (0x26, 1) ∷ [];
       level = 1;
@@ -186,7 +187,7 @@ further =
       answers = trap El3 0x6230E449 ∷ [];
       after = [];
     }
-    -- none of its rules is for level 3
+    -- MODEL I1 to I6: none is for level 3
     ∷ record {
       given = (0x03, 1) ∷ (0x05, 1) ∷ (0x0A, 1) ∷ (0x0B, 1) ∷ (0x11, 1) ∷ (0x12, 1) ∷ (0x26, 1) ∷ (0x28, 1) ∷ (0x7F, 5) ∷ [];
       level = 3;
@@ -194,7 +195,7 @@ further =
       answers = Answer.Mrs 5 2 ∷ [];
       after = [];
     }
-    -- PMICNTR's fine-grained bits at level 0, not with E2H and TGE
+    -- MODEL T9: PMICNTR's fine-grained bits at level 0, not with E2H and TGE
     ∷ record {
       given = (0x03, 1) ∷ (0x05, 1) ∷ (0x33, 1) ∷ (0x25, 1) ∷ (0x7F, 5) ∷ [];
       level = 0;
@@ -209,7 +210,7 @@ further =
       answers = Answer.Mrs 5 2 ∷ [];
       after = [];
     }
-    -- PMICNTR at level 0: F0 0; IR 1; both open. IR does not bind level 1
+    -- MODEL G6, I8: PMICNTR at level 0 with F0 0; with IR 1; with neither, and EN 0. IR does not bind level 1
     ∷ record {
       given = (0x03, 1) ∷ (0x7F, 5) ∷ [];
       level = 0;
@@ -238,7 +239,7 @@ further =
       answers = Answer.Ok ∷ [];
       after = (0x7F, 7) ∷ [];
     }
-    -- external: another offset; EXT32 alone; neither EXT32 nor EXT64; each lock; the software lock
+    -- MODEL E1, E5, E2, E3, E4: another offset; EXT32 alone; neither EXT32 nor EXT64; each lock; the software lock
     ∷ record {
       given = (0x39, 1) ∷ [];
       level = 0;
@@ -295,7 +296,7 @@ further =
       answers = Answer.Ok ∷ Answer.Value 1 ∷ [];
       after = [];
     }
-    -- a tick: not enabled, prohibited, without ICNTR, and one that counts and wraps
+    -- MODEL K1, K2: a tick that is not enabled, prohibited, without ICNTR, and one that counts and wraps
     ∷ record { given = (0x03, 1) ∷ (0x7F, 5) ∷ []; level = 0; actions = ticks false ∷ []; answers = Answer.Ok ∷ []; after = [] }
     ∷ record {
       given = (0x03, 1) ∷ (0x34, 0x100000000) ∷ (0x7F, 5) ∷ [];
@@ -318,7 +319,7 @@ further =
       answers = Answer.Ok ∷ [];
       after = (0x7F, 0) ∷ [];
     }
-    -- the state refusals 10, 11, 12, 14, 15, 16 and 17; 13 is P10's
+    -- MODEL R10, R11, R12, R14 to R17: the state refusals; R13 is P10's
     ∷ record {
       given = [];
       level = 4;

@@ -1,4 +1,4 @@
--- 01, "Two machines under one list": the claim of demand 3, about whole lists of accesses and about the very step of
+-- Two machines under one list: the claim of demand 3, about whole lists of accesses and about the very step of
 -- specs/Step.antt. Its proof is proofs/Isolation.antt; nothing here depends on it.
 use Prim.Native.Nat.{ℕ, _≤_}
 use mathlib.Core.Bool.{Bool, true, false, not, _&&_}
@@ -14,12 +14,12 @@ use Rattle.state.specs.State.{viewOf, verdictOf}
 use Rattle.bits.specs.Bits.{bit}
 use Rattle.rules.specs.Step.{Access, run}
 
--- "the counters named": which event counters, and whether field 7F
+-- MODEL M4: the counters named, which event counters and whether the instruction counter
 pub record Named : Type 0 where
   pub counter : ℕ → Bool
   pub instructions : Bool
 
--- "their levels and fields are equal except for the counters named"
+-- MODEL M4: two records agree on the level and on every field but the counters named
 pub record SameExcept (x : Named) (r₁ r₂ : Machine) : Type 0 where
   pub level : r₁ .level ≡ r₂ .level
   pub settings : r₁ .settings ≡ r₂ .settings
@@ -27,36 +27,37 @@ pub record SameExcept (x : Named) (r₁ r₂ : Machine) : Type 0 where
   pub counters : (m : ℕ) → m ≤ 30 → x .counter m ≡ false → getD (r₁ .counters) m 0 ≡ getD (r₂ .counters) m 0
   pub instructions : x .instructions ≡ false → r₁ .instructions ≡ r₂ .instructions
 
--- "each named counter has its value from that machine's start record"
+-- MODEL M6: each counter named holds what it held at the start
 pub record Kept (x : Named) (start after : Machine) : Type 0 where
   pub counters : (m : ℕ) → m ≤ 30 → x .counter m ≡ true → getD (after .counters) m 0 ≡ getD (start .counters) m 0
   pub instructions : x .instructions ≡ true → after .instructions ≡ start .instructions
 
--- "Both start records meet no state refusal with the level put to 0". A record of the code has 31 event counters by its type
+-- MODEL M3: a start record, consistent with its level put to 0. A record of the code has 31 event counters by its type
 pub record Start (r : Machine) : Type 0 where
   pub sized : length (r .counters) ≡ 31
   pub consistent : verdictOf (viewOf (withLevel 0 r)) ≡ Consistent
 
--- a consistent machine, at whatever level it is: `consistent-start` of proofs/Isolation.antt shows that it meets `Start`
+-- MODEL M3: a record that is consistent at its own level: `consistent-start` of proofs/Isolation.antt shows that it meets
+-- `Start`
 pub record ConsistentMachine (r : Machine) : Type 0 where
   pub sized : length (r .counters) ≡ 31
   pub consistent : verdictOf (viewOf r) ≡ Consistent
 
--- every access of the list is from level top or below
+-- MODEL M7 to M9: every access of the list is from level top or below
 abbrev pub fromLevels : ℕ → List Access → Bool
 fromLevels top [] = true
 fromLevels top (a ∷ rest) = leb (a .level) top && fromLevels top rest
 
--- "It is equal on both machines at each place in the list. After the list the level and all fields except the named counters
--- are equal on both, and each named counter has its value from that machine's start record."
+-- MODEL M5 and M6: every answer is the same, and the records afterwards agree and have kept their counters
 pub record Isolated (x : Named) (accesses : List Access) (r₁ r₂ : Machine) : Type 0 where
   pub answers : run accesses r₁ .answers ≡ run accesses r₂ .answers
   pub same : SameExcept x (run accesses r₁ .machine) (run accesses r₂ .machine)
   pub kept₁ : Kept x r₁ (run accesses r₁ .machine)
   pub kept₂ : Kept x r₂ (run accesses r₂ .machine)
 
--- the claim for a condition on start records, accesses from level top or below, counters named by the settings, and a condition
--- on the settings: two machines that differ only in the counters named answer every list alike, and each keeps those counters
+-- MODEL M1 to M6: the claim for a condition on start records, accesses from level top or below, counters named by the
+-- settings, and a condition on the settings: two machines that differ only in the counters named answer every list alike, and
+-- each keeps those counters
 abbrev pub Claim : (Machine → Type 0) → ℕ → (Settings → Named) → (Settings → Bool) → Type 0
 Claim start top named when =
     (r₁ r₂ : Machine) (accesses : List Access)
@@ -67,30 +68,32 @@ Claim start top named when =
     → SameExcept (named (r₁ .settings)) r₁ r₂
     → Isolated (named (r₁ .settings)) accesses r₁ r₂
 
--- "event counters m with HPMN <= m <= 30"
+-- MODEL M7: the event counters from HPMN on
 abbrev pub fromHpmn : Settings → Named
 fromHpmn s = record { counter = λ m. leb (s .mdcr2 .hpmn) m; instructions = false }
 
--- "event counters 0 to 30 whose bit in field 32 is 0"
+-- MODEL M8: the event counters whose P bit is 0
 abbrev pub withoutP : Settings → Named
 withoutP s = record { counter = λ m. not (bit m (s .pmuacr .p)); instructions = false }
 
--- "field 7F"
+-- MODEL M9: the instruction counter
 abbrev pub instructionCounter : Settings → Named
 instructionCounter s = record { counter = λ m. false; instructions = true }
 
--- the settings with which these counters are hidden: EL2 enabled; p9 present, UEN 1 and SW 0; F0 0
+-- MODEL M7: the settings with which HPMN hides its counters
 abbrev pub hpmnHides : Settings → Bool
 hpmnHides s = s .execution .el2enabled
 
+-- MODEL M8: the settings with which PMUACR hides its counters
 abbrev pub pmuacrHides : Settings → Bool
 pmuacrHides s = s .features .p9 && s .pmuserenr .uen && not (s .pmuserenr .sw)
 
+-- MODEL M9: the settings with which F0 hides the instruction counter
 abbrev pub f0Hides : Settings → Bool
 f0Hides s = not (s .pmuacr .f0)
 
--- demand 3, whole: a noninterference claim, for accesses from EL0 and EL1, from EL0, and from EL0. `Noninterference Start` is
--- what is demanded, and `Noninterference ConsistentMachine` says it of two consistent machines
+-- MODEL M7, M8 and M9: demand 3, whole: a noninterference claim, for accesses from EL0 and EL1, from EL0, and from EL0.
+-- `Noninterference Start` is what is demanded, and `Noninterference ConsistentMachine` says it of two consistent machines
 pub record Noninterference (start : Machine → Type 0) : Type 0 where
   pub hpmn : Claim start 1 fromHpmn hpmnHides
   pub pmuacr : Claim start 0 withoutP pmuacrHides

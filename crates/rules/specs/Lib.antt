@@ -1,5 +1,5 @@
--- The rules of document 01 on accesses, in its order: the instruction word, the order of traps, permitted accesses, the step,
--- external accesses and the tick, lists of accesses, and the claim of isolation.
+-- The rules on accesses in the order of docs/MODEL.md: the instruction word, the orders of traps, granted accesses, the step,
+-- external accesses and the tick, examples, and the claim of isolation.
 pub mod Word
 pub mod Traps
 pub mod Permitted

@@ -1,5 +1,5 @@
--- 01, "Permitted accesses", as far as they can be decided without a counter: what reads 0, what ignores a write, and which bits
--- of PMSWINC count.
+-- Granted accesses, as far as they can be decided without a counter: what reads 0, what ignores a write, and which bits of
+-- PMSWINC count.
 use Prim.Native.Nat.{ℕ}
 use mathlib.Core.Bool.{Bool, cond, not, _&&_, _||_}
 use lib.Dec.{leb}
@@ -14,56 +14,57 @@ use Rattle.rules.specs.declared.Place.the-variants.{Counter, Instruction
 use Rattle.rules.specs.Word.{written}
 use Rattle.rules.specs.Traps.{atEl0, upTo, el2Enabled, atOrAboveHpmn}
 
--- a permitted access of a place: where it is denied, it reads 0 and ignores writes; where it is read-only, it ignores writes
+-- MODEL G2 and G7: a granted access of a place. Where it is denied, it reads 0 and ignores writes; where it is read-only, it
+-- ignores writes
 unfoldable pub placeAccess : Bool → Bool → Place → Instruction → ℕ → Decision
 placeAccess isDenied isReadOnly place i x =
     cond (i .read)
     (cond isDenied (Says (Answer.Mrs 0 (i .rt))) (Read place (i .rt)))
     (cond (isDenied || isReadOnly) (Says Answer.Ok) (Write place (written i x)))
 
--- PMUACR binds the event counters at EL0 with p9 and UEN 1
+-- MODEL G3: PMUACR binds the event counters at EL0 with p9 and UEN 1
 abbrev pub pmuacrBinds : View → Bool
 pmuacrBinds v = atEl0 v && v .settings .features .p9 && v .settings .pmuserenr .uen
 
--- PMEVCNTR: "level 0, p9, UEN 1, P<m> 0: reads 0, ignores writes"
+-- MODEL G4: event counter m is denied by its P bit
 abbrev pub denied : View → ℕ → Bool
 denied v m = pmuacrBinds v && not (bit m (v .settings .pmuacr .p))
 
--- PMEVCNTR: "Level 0, p9, UEN 1, ER 1: ignores writes."
+-- MODEL G5: event counters are read-only by ER
 abbrev pub readOnly : View → Bool
 readOnly v = pmuacrBinds v && v .settings .pmuserenr .er
 
--- a permitted access of PMEVCNTR<m>
+-- MODEL G2, G4 and G5: a granted access of PMEVCNTR<m>
 abbrev pub pmevcntrAccess : View → ℕ → Instruction → ℕ → Decision
 pmevcntrAccess v m i x = placeAccess (denied v m) (readOnly v) (Counter m) i x
 
--- PMICNTR: "level 0 and F0 0: reads 0, ignores writes"
+-- MODEL G6: the instruction counter is denied by F0
 abbrev pub deniedF0 : View → Bool
 deniedF0 v = atEl0 v && not (v .settings .pmuacr .f0)
 
--- PMICNTR: "Level 0 and IR 1: ignores writes."
+-- MODEL G6: the instruction counter is read-only by IR
 abbrev pub readOnlyIr : View → Bool
 readOnlyIr v = atEl0 v && v .settings .pmuserenr .ir
 
--- a permitted access of PMICNTR
+-- MODEL G2 and G6: a granted access of PMICNTR
 abbrev pub pmicntrAccess : View → Instruction → ℕ → Decision
 pmicntrAccess v i x = placeAccess (deniedF0 v) (readOnlyIr v) Instructions i x
 
--- PMSWINC: PMUACR holds increments back only while SW is 0
+-- MODEL G9: PMUACR holds increments back, only while SW is 0
 abbrev pub holdsBack : View → Bool
 holdsBack v = pmuacrBinds v && not (v .settings .pmuserenr .sw)
 
--- PMSWINC: "Bit m is ignored if m >= N; or levels 0 and 1, EL2 enabled, m >= HPMN; or level 0, p9, UEN 1, SW 0, P<m> 0."
+-- MODEL G9: bit m of PMSWINC is ignored: there is no such counter, EL2 keeps it, or PMUACR holds it back
 abbrev pub ignored : View → ℕ → Bool
 ignored v m =
     leb (v .settings .features .n) m
     || (upTo 1 v && el2Enabled v && atOrAboveHpmn v m)
     || (holdsBack v && not (bit m (v .settings .pmuacr .p)))
 
--- the operand's bits that are not ignored, of the 31 event counters
+-- MODEL G8 and G9: the operand's bits that are not ignored, of the 31 event counters
 unfoldable pub addMask : View → ℕ → ℕ
 addMask v x = fromBits 31 (λ m. bit m x && not (ignored v m))
 
--- a permitted write of PMSWINC
+-- MODEL G8: a granted write of PMSWINC
 abbrev pub pmswincAccess : View → Instruction → ℕ → Decision
 pmswincAccess v i x = Add (addMask v (written i x))

@@ -1,4 +1,5 @@
--- The by-value step: decide, by a view in which there is no counter, then apply; and a list of accesses, each with its own level.
+-- The by-value step: decide, by a view in which there is no counter, then apply; and a list of accesses, each with its own
+-- level.
 use Prim.Native.Nat.{ℕ}
 use mathlib.Core.Bool.{Bool, false, cond, not, _||_}
 use mathlib.Core.List.{List, [], _∷_}
@@ -22,69 +23,68 @@ use Rattle.rules.specs.Traps.{pmevcntrStop, pmswincStop, pmicntrStop}
 use Rattle.rules.specs.Permitted.{pmevcntrAccess, pmswincAccess, pmicntrAccess}
 use Rattle.rules.specs.Apply.{apply}
 
--- "Undefined at once: PMEVCNTR or PMSWINC without PMUv3, PMICNTR without ICNTR, MRS of PMSWINC, PMEVCNTR with m >= N." The last
--- also without FGT, where page 001 leaves a choice: "ours are undefined for m >= N"
+-- MODEL U1 to U5: undefined before any trap is looked at. U2 holds without FGT too, where Arm's page 001 leaves a choice
 abbrev pub undefinedAtOnce : View → Register → Bool → Bool
 undefinedAtOnce v (Pmevcntr m) read = not (v .settings .features .pmuv3) || leb (v .settings .features .n) m
 undefinedAtOnce v Pmswinc read = not (v .settings .features .pmuv3) || read
 undefinedAtOnce v Pmicntr read = not (v .settings .features .icntr)
 undefinedAtOnce v Other read = false
 
--- 01, "Order of traps", for the register and the direction
+-- MODEL T1 to T6 and I1 to I6: the order of traps, for the register and the direction
 abbrev pub stopOf : View → Register → Bool → Stop
 stopOf v (Pmevcntr m) read = pmevcntrStop v read m
 stopOf v Pmswinc read = pmswincStop v
 stopOf v Pmicntr read = pmicntrStop v read
 stopOf v Other read = Stop.Pass
 
--- 01, "Permitted accesses"; "All other words answer `other`."
+-- MODEL G2, G8 and W7: a granted access; a word of no register of the model's answers `other`
 abbrev pub permitted : View → Register → Instruction → ℕ → Decision
 permitted v (Pmevcntr m) i x = pmevcntrAccess v m i x
 permitted v Pmswinc i x = pmswincAccess v i x
 permitted v Pmicntr i x = pmicntrAccess v i x
 permitted v Other i x = Says Answer.Other
 
--- an access that the order of traps passes does as permitted; "A trap answers the target level and the syndrome"
+-- MODEL T11: an access that the order of traps passes is granted, and a trap answers its target and the syndrome
 abbrev pub unlessStopped : ℕ → Stop → Decision → Decision
 unlessStopped syndrome Stop.Pass d = d
 unlessStopped syndrome Stop.Undef d = Says Answer.Undef
 unlessStopped syndrome (Stop.Trap l) d = Says (Answer.Trap (record { target = l; syndrome = syndrome }))
 
--- the access to a register of a consistent record: undefined at once, or stopped by the order of traps, or permitted
+-- MODEL A2: the access to a register of a consistent record: undefined at once, or stopped by the order of traps, or granted
 unfoldable pub decideRegister : View → Register → Instruction → ℕ → Decision
 decideRegister v r i x =
     cond (undefinedAtOnce v r (i .read)) (Says Answer.Undef)
     (unlessStopped (i .syndrome) (stopOf v r (i .read)) (permitted v r i x))
 
--- "before all else, every access .. tests the record, lowest number first"
+-- MODEL V3: a refused record comes before all else
 abbrev pub unlessRefused : Verdict → Decision → Decision
 unlessRefused Consistent d = d
 unlessRefused (Refused r) d = Says (Answer.Refused r)
 
--- what the access with word w and operand x is to do
+-- MODEL A2: what the access with word w and operand x is to do
 unfoldable pub decide : View → ℕ → ℕ → Decision
 decide v w x = unlessRefused (verdictOf v) (decideRegister v (decode w .register) (decode w) x)
 
--- the access with word w and operand x
+-- MODEL A1: the access with word w and operand x
 unfoldable pub step : ℕ → ℕ → Machine → Outcome
 step w x r = apply (decide (viewOf r) w x) r
 
--- 01, "Two machines under one list": "An access here is a level, a word and an operand"
+-- MODEL M1: an access of a list, with its own level
 pub record Access : Type 0 where
   pub level : ℕ
   pub word : ℕ
   pub operand : ℕ
 
--- what a list of accesses answers, in order, and the record after it
+-- MODEL M2: what a list of accesses answers, in order, and the record after it
 pub record Run : Type 0 where
   pub answers : List Answer
   pub machine : Machine
 
--- "An access gets the record that the one before it returned, with the level put to its own."
+-- MODEL M2: the level is put to the access's own, and the access is made
 unfoldable pub access : Access → Machine → Outcome
 access a r = step (a .word) (a .operand) (withLevel (a .level) r)
 
--- "Each machine runs the list from its own start record."
+-- MODEL M2: the list run from a start record
 unfoldable pub run : List Access → Machine → Run
 run [] r = record { answers = []; machine = r }
 run (a ∷ rest) r =

@@ -1,5 +1,5 @@
--- Document 01's examples as data: `worked` is its table "Soundings to prove", and `misreadings` has one for each of its "Readings
--- that would run aground" but the first, which is P9.
+-- Worked examples as data: `worked` is the table of MODEL P1 to P11 (document 01: soundings), and `misreadings` has one for
+-- each of the wrong readings MODEL Q2 to Q4; that for Q1 is P9.
 use mathlib.Core.List.{List, [], _∷_}
 use Rattle.answer.specs.declared.Answer.{Answer}
 use Rattle.answer.specs.declared.Level.the-variants.{El1, El2, El3}
@@ -7,13 +7,13 @@ use Rattle.answer.specs.declared.Refusal.the-variants.{HpmnAboveN}
 use Rattle.rules.specs.Example.{Example, trap, swinc}
 use Rattle.rules.specs.Example.Action.{access, read, write}
 
--- 01, "Soundings to prove", P1 to P11. Where the paper gives no value, the counters that are read, and those that a counter write
--- must leave alone, hold one; in the second half of P10 so does the instruction counter
+-- MODEL P1 to P11. Where the table gives no value, the counters that are read, and those that a counter write must leave
+-- alone, hold one; in the second half of P10 so does the instruction counter
 unfoldable pub worked : List Example
 worked =
-    -- P1
+    -- MODEL P1
     record { given = []; level = 1; actions = access 0xD53BE882 0 ∷ []; answers = trap El2 0x6238F851 ∷ []; after = [] }
-    -- P2
+    -- MODEL P2
     ∷ record { given = []; level = 1; actions = access 0xD53BE8A2 0 ∷ []; answers = trap El2 0x623AF851 ∷ []; after = [] }
     ∷ record {
       given = (0x65, 41) ∷ [];
@@ -22,9 +22,9 @@ worked =
       answers = Answer.Mrs 41 2 ∷ [];
       after = [];
     }
-    -- P3
+    -- MODEL P3
     ∷ record { given = []; level = 2; actions = access 0xD53BE8C2 0 ∷ []; answers = Answer.Undef ∷ []; after = [] }
-    -- P4
+    -- MODEL P4
     ∷ record {
       given = (0x23, 1) ∷ (0x63, 9) ∷ [];
       level = 0;
@@ -32,7 +32,7 @@ worked =
       answers = Answer.Mrs 0 2 ∷ Answer.Ok ∷ [];
       after = [];
     }
-    -- P5
+    -- MODEL P5
     ∷ record {
       given = (0x23, 1) ∷ (0x22, 1) ∷ (0x32, 8) ∷ (0x63, 9) ∷ [];
       level = 0;
@@ -40,10 +40,10 @@ worked =
       answers = Answer.Ok ∷ [];
       after = [];
     }
-    -- P6
+    -- MODEL P6
     ∷ record { given = []; level = 1; actions = swinc 0x18 ∷ []; answers = Answer.Ok ∷ []; after = (0x63, 1) ∷ [] }
     ∷ record { given = []; level = 2; actions = swinc 0x18 ∷ []; answers = Answer.Ok ∷ []; after = (0x63, 1) ∷ (0x64, 1) ∷ [] }
-    -- P7
+    -- MODEL P7
     ∷ record {
       given = (0x60, 0xFFFFFFFF) ∷ [];
       level = 1;
@@ -58,7 +58,7 @@ worked =
       answers = Answer.Ok ∷ [];
       after = (0x60, 0) ∷ [];
     }
-    -- P8
+    -- MODEL P8
     ∷ record { given = (0x20, 0) ∷ []; level = 0; actions = swinc 0 ∷ []; answers = trap El1 0x6238E438 ∷ []; after = [] }
     ∷ record {
       given = (0x20, 0) ∷ (0x25, 1) ∷ [];
@@ -67,7 +67,7 @@ worked =
       answers = trap El2 0x6238E438 ∷ [];
       after = [];
     }
-    -- P9
+    -- MODEL P9
     ∷ record {
       given = (0x23, 1) ∷ (0x21, 1) ∷ (0x20, 0) ∷ [];
       level = 0;
@@ -75,7 +75,7 @@ worked =
       answers = Answer.Ok ∷ [];
       after = (0x63, 1) ∷ [];
     }
-    -- P10
+    -- MODEL P10
     ∷ record {
       given = (0x27, 6) ∷ (0x64, 7) ∷ [];
       level = 1;
@@ -90,7 +90,7 @@ worked =
       answers = Answer.Refused HpmnAboveN ∷ [];
       after = [];
     }
-    -- P11
+    -- MODEL P11
     ∷ record {
       given = [];
       level = 0;
@@ -107,10 +107,10 @@ worked =
     }
     ∷ []
 
--- 01, "Readings that would run aground"; the first of them is P9
+-- MODEL Q1 to Q4: an example that tells each wrong reading from the rule; the first of them is P9
 unfoldable pub misreadings : List Example
 misreadings =
-    -- "Testing MDCR_EL3.TPM of rule 6 before HPMN": m >= HPMN traps to EL2, m < HPMN to EL3
+    -- MODEL Q2: from HPMN on a counter traps to EL2, and below it to EL3
     record {
       given = (0x0A, 1) ∷ (0x28, 1) ∷ [];
       level = 1;
@@ -118,9 +118,9 @@ misreadings =
       answers = trap El2 0x6238F851 ∷ trap El3 0x6236F851 ∷ [];
       after = [];
     }
-    -- "trapping PMSWINC for a high bit: that bit is ignored"
+    -- MODEL Q2: a bit of PMSWINC at HPMN or above is ignored and does not trap
     ∷ record { given = []; level = 0; actions = swinc 0x10 ∷ []; answers = Answer.Ok ∷ []; after = [] }
-    -- "Using HPMN in rule 5 or for a PMSWINC bit where EL2 is not enabled"
+    -- MODEL Q3: HPMN does not count while EL2 is not enabled, for an access or for a bit of PMSWINC
     ∷ record {
       given = (0x10, 0) ∷ (0x65, 41) ∷ [];
       level = 1;
@@ -128,7 +128,7 @@ misreadings =
       answers = Answer.Mrs 41 2 ∷ Answer.Ok ∷ [];
       after = (0x65, 42) ∷ [];
     }
-    -- "Letting a PMUACR bit bind level 1": a read, a write and an increment of a counter, and PMICNTR
+    -- MODEL Q4: PMUACR does not bind level 1: a read, a write and an increment of a counter, and PMICNTR
     ∷ record {
       given = (0x23, 1) ∷ (0x63, 9) ∷ [];
       level = 1;

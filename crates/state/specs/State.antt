@@ -1,4 +1,4 @@
--- The state refusals 10 to 17 (01, "Refused because of the state"), as tests on what a decision may look at.
+-- The state refusals 10 to 17, as tests on what a decision may look at.
 use Prim.Native.Nat.{ℕ, _^_}
 use mathlib.Core.Bool.{Bool, false, not, _&&_, _||_}
 use mathlib.Core.List.{List, [], _∷_}
@@ -21,23 +21,25 @@ use Rattle.state.specs.declared.Verdict.{Verdict}
 use Rattle.state.specs.declared.Verdict.the-variants.{Consistent, Refused}
 use Rattle.fields.specs.Largest.{largest, largestLevel}
 
--- some counter is 2^32 or more
+-- MODEL R15: some counter is 2^32 or more
 abbrev pub anyWide : List ℕ → Bool
 anyWide [] = false
 anyWide (x ∷ xs) = leb (2 ^ 32) x || anyWide xs
 
--- what a decision about an access may look at: the level, the settings and, of the counters, refusal 15's test alone
+-- MODEL V5: what a decision about an access may look at: the level, the settings and, of the counters, refusal 15's test alone
 abbrev pub viewAt : ℕ → Settings → List ℕ → View
 viewAt l s counters = record { level = l; settings = s; wide = not (s .features .p5) && anyWide counters }
 
+-- MODEL V5: of a record
 unfoldable pub viewOf : Machine → View
 viewOf m = viewAt (m .level) (m .settings) (m .counters)
 
--- the field's largest value is below v
+-- MODEL R10: v is above the largest value of field f
 abbrev pub exceeds : ℕ → ℕ → Bool
 exceeds v f = ltb (largest f) v
 
--- 10: a field or the level exceeds its largest. A flag, an event number and a counter cannot: their types end there
+-- MODEL R10: some field, or the level, is above its largest. A flag, an event number and a counter cannot be: their types end
+-- there
 unfoldable pub tooLarge : View → Bool
 unfolding largest
 tooLarge v =
@@ -47,39 +49,39 @@ tooLarge v =
     || exceeds (v .settings .cnten) 0x34
     || ltb largestLevel (v .level)
 
--- 11: level is 3 and EL3 missing, or 2 and EL2 not enabled
+-- MODEL R11: level 3 without EL3, or level 2 while EL2 is not enabled
 abbrev pub levelUnavailable : View → Bool
 levelUnavailable v =
     (eqb (v .level) 3 && not (v .settings .features .el3)) || (eqb (v .level) 2 && not (v .settings .execution .el2enabled))
 
--- 12: EL2 enabled but not implemented
+-- MODEL R12: EL2 is enabled and not implemented
 abbrev pub el2Unimplemented : View → Bool
 el2Unimplemented v = v .settings .execution .el2enabled && not (v .settings .features .el2)
 
--- 13: EL2 implemented and HPMN > N
+-- MODEL R13: with EL2 implemented, HPMN is above N
 abbrev pub hpmnAboveN : View → Bool
 hpmnAboveN v = v .settings .features .el2 && ltb (v .settings .features .n) (v .settings .mdcr2 .hpmn)
 
--- 14: EL2 implemented, HPMN is 0 and HPMN0 missing
+-- MODEL R14: with EL2 implemented, HPMN is 0 without HPMN0
 abbrev pub hpmnZero : View → Bool
 hpmnZero v =
     v .settings .features .el2 && eqb (v .settings .mdcr2 .hpmn) 0 && not (v .settings .features .hpmn0)
 
--- 15: p5 missing and some counter 0 to 30 is 2^32 or more. Both are in `wide`, as `viewOf` makes it
+-- MODEL R15: a counter has more than 32 bits, without p5. Both are in `wide`, as `viewOf` makes it
 abbrev pub counterTooWide : View → Bool
 counterTooWide v = v .wide
 
--- 16: level 1, EL2 enabled and TGE 1
+-- MODEL R16: level 1 while EL2 is enabled and TGE is 1
 abbrev pub tgeAtEl1 : View → Bool
 tgeAtEl1 v = eqb (v .level) 1 && v .settings .execution .el2enabled && v .settings .hcr .tge
 
--- 17: p5, p9 or ICNTR without PMUv3, or p9 without p5
+-- MODEL R17: p5, p9 or ICNTR is there without PMUv3, or p9 without p5
 abbrev pub featureMissing : View → Bool
 featureMissing v =
     let has = v .settings .features in
     ((has .p5 || has .p9 || has .icntr) && not (has .pmuv3)) || (has .p9 && not (has .p5))
 
--- the state test that every access, external access and tick begins with: a row for each refusal, lowest number first
+-- MODEL V3: the state test, a row for each refusal, lowest number first
 unfoldable pub refusals : View → List (Bool × Verdict)
 refusals v =
     (tooLarge v, Refused FieldTooLarge)
@@ -92,6 +94,6 @@ refusals v =
     ∷ (featureMissing v, Refused FeatureMissing)
     ∷ []
 
--- a record is consistent where no row applies
+-- MODEL V4: a record is consistent where no row applies
 unfoldable pub verdictOf : View → Verdict
 verdictOf v = first (refusals v) Consistent

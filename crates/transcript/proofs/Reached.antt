@@ -1,4 +1,4 @@
--- Refusal 10: "only a direct caller can do this". It is no answer of any session: the fresh record has no number above its
+-- MODEL R10: commands can't bring it about. It is no answer of any session: the fresh record has no number above its
 -- largest, and no command makes one that has.
 use Prim.Native.Nat.{ℕ, zero, suc}
 use mathlib.Core.Bool.{false}

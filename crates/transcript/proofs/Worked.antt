@@ -1,4 +1,4 @@
--- The worked session of document 01 gives exactly its seven lines, and the other sessions of specs/Example theirs. Computed.
+-- The worked session (MODEL S8) gives exactly its seven lines, and the other sessions of specs/Example theirs. Computed.
 use mathlib.Core.List.{map}
 use mathlib.Core.Path.{_≡_, refl}
 use Rattle.fields.specs.Largest.{largest}

@@ -1,3 +1,3 @@
--- Document 01, "Sessions": a command run on the record, the whole output of a session, and worked sessions.
+-- A command run on the record, the whole output of a session, and worked sessions.
 pub mod Session
 pub mod Example

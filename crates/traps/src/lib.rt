@@ -1,4 +1,4 @@
-// The order of traps (01, "Order of traps"): each rule's test, and the first that applies.
+// The orders of traps (MODEL T, I): each rule's test, and the first that applies. `rule3` is T3, and so on.
 ghost use mathlib.Core.Path.{_≡_};
 ghost use mathlib.Core.Bool.{cond};
 ghost use Rattle.rules.specs.Traps.{disabledTrap, stopAtEl3, counterOrder, pmevcntrStop, pmswincStop, icntrOrder, pmicntrStop};
@@ -13,7 +13,7 @@ fn select(test: bool, a: bool, b: bool) -> bool
     if test { a } else { b }
 }
 
-// Rule 2's target.
+// The target of MODEL T2.
 fn disabled_trap(v: View) -> Stop
     ensures { λ r. ⌜ r ≡ disabledTrap v ⌝ }
 {
@@ -34,7 +34,7 @@ fn stop_at_el3(v: View) -> Stop
 }
 
 // The order for PMEVCNTR and PMSWINC, from whether PMUSERENR shuts it out at EL0, the fine-grained bit, and whether
-// m >= HPMN: rules 1 to 6.
+// m is HPMN or more: MODEL T1 to T6.
 fn counter_order(v: View, disabled: bool, trap_bit: bool, above: bool) -> Stop
     ensures { λ r. ⌜ r ≡ counterOrder v disabled «trap_bit» above ⌝ }
 {

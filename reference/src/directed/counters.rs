@@ -1,5 +1,5 @@
-//! "Permitted accesses" of document 01 to PMEVCNTR: PMUACR, UEN and ER at each
-//! level, the width of a write, and rule 5 for every counter.
+//! MODEL G1 to G5 and T5: granted accesses to PMEVCNTR. PMUACR, UEN and ER at
+//! each level, the width of a write, and T5 for every counter.
 
 use super::fields::*;
 use super::script::{Change, Kind, Script, Switch};
@@ -81,7 +81,7 @@ const BORDERS: [u64; 12] = [
     0xFFFF_FFFF_FFFF_FFFF,
 ];
 
-/// A write without p5 stores the low 32 bits, with it all, at each level.
+/// MODEL G1 and G2: a write stores 32 bits, with p5 all 64, at each level.
 fn width_session(p5: u64) -> Vec<u8> {
     let mut script = Script::counters(&GIVEN);
     script.put(&[(P9, 0), (P5, p5)]);
@@ -95,7 +95,7 @@ fn width_session(p5: u64) -> Vec<u8> {
     script.finish()
 }
 
-/// Rule 5 for every counter and some HPMN, at levels 0 to 2.
+/// MODEL T5: every counter and some HPMN, at levels 0 to 2.
 fn hpmn_session(hpmn: u64, n: u64) -> Vec<u8> {
     let mut script = Script::counters(&GIVEN);
     script.put(&[(HPMN0, 1), (N, n), (HPMN, hpmn)]);

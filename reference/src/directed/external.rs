@@ -1,5 +1,5 @@
-//! The external PMCNTENSET_EL0 of document 01 and ticks: locks, the bits that
-//! exist, other offsets, and when an instruction is counted.
+//! MODEL E1 to E8, K1 and K2: the external PMCNTENSET_EL0 and ticks. Locks, the
+//! bits that exist, other offsets, and when an instruction is counted.
 
 use super::fields::*;
 use super::script::{Change, Script, Switch, PMCNTENSET};

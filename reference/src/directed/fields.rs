@@ -1,4 +1,4 @@
-//! The field numbers of document 01, "The machine record", under Arm's names.
+//! MODEL F2 to F16: the field numbers, under Arm's names.
 
 pub const PMUV3: u8 = 0x00;
 pub const P5: u8 = 0x01;
@@ -62,7 +62,7 @@ pub const COUNTER: u8 = 0x60;
 pub const INSTRUCTIONS: u8 = 0x7F;
 
 /// No field: stands for the exception level in tables of changes, so that the
-/// level can be one of the conditions of a rule. It is no number of 01.
+/// level can be one of the conditions of a rule. MODEL F19: no field has it.
 pub const LEVEL: u8 = 0xFE;
 
 /// The bit of the counter enables that is PMICNTR's.

@@ -47,7 +47,7 @@ fn bits() -> impl Iterator<Item = u8> {
 }
 
 /// What else is given, and the accesses that are tried. In all but the first
-/// rows "Permitted accesses" of 01 hides the counter or ignores the write.
+/// ten rows the counter is denied or the write ignored (MODEL G4 to G6 and G9).
 type Row = (&'static str, &'static [Change], &'static [Kind]);
 
 const ROWS: [Row; 15] = [

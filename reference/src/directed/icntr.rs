@@ -1,13 +1,13 @@
-//! PMICNTR's rules in "Order of traps" of document 01, in both directions: each
-//! rule with each of its conditions flipped at each level, all rules in all
-//! subsets, and what F0 and IR do to a permitted access.
+//! MODEL I1 to I8 and G6: PMICNTR in both directions. Each rule with each of
+//! its conditions flipped at each level, all rules in all subsets, and what F0
+//! and IR do to a granted access.
 
 use super::fields::*;
 use super::script::{debug_states, Change, Kind, Script, Switch};
 use super::Session;
 
-/// Consistent, and no rule applies at any level. PMUSERENR is all 0: document
-/// 004 does not test it.
+/// Consistent, and no rule applies at any level. PMUSERENR is all 0: it stops
+/// no access to PMICNTR (MODEL I8).
 const GIVEN: [Change; 16] = [
     (PMUV3, 1),
     (ICNTR, 1),
@@ -130,8 +130,7 @@ fn subsets_session(kind: Kind, level: u8, halted: u64) -> Vec<u8> {
     script.finish()
 }
 
-/// "Permitted accesses": F0 and IR bind level 0 alone, with or without p9, UEN
-/// and EN.
+/// MODEL G6: F0 and IR bind level 0 alone, with or without p9, UEN and EN.
 fn permitted_session(level: u8) -> Vec<u8> {
     let switches: [Switch; 5] =
         [(PMUACR_F0, 0, 1), (IR, 0, 1), (UEN, 0, 1), (EN, 0, 1), (P9, 0, 1)];

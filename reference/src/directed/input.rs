@@ -1,6 +1,5 @@
-//! "Refused because of the input" of document 01, refusals 1, 2, 5 and 6, and
-//! flag operands and field numbers that are refused. Values that exceed their
-//! field are in values.rs.
+//! MODEL R1 to R6, V1 and V2: refused because of a session's bytes. Of R4 only
+//! the flag of a tick; values above their field's largest are in values.rs.
 
 use super::fields::*;
 use super::script::{Change, Script, PMCNTENSET};
@@ -27,7 +26,7 @@ const UNKNOWN: [u8; 17] = [
     0xFF,
 ];
 
-/// 1: reading ends at an unknown command byte, whatever follows it.
+/// MODEL R1: reading ends at an unknown command byte, whatever follows it.
 fn unknown_sessions() -> Vec<Session> {
     let session = |byte: u8| {
         let mut script = Script::new(&GIVEN[..2]);
@@ -66,8 +65,8 @@ const CUTS: [Cut; 8] = [
     ("tick-flag", |s| s.tick(0xFF), &[2]),
 ];
 
-/// 2: the session ends after each number of bytes of each command, the last
-/// number being the whole command, where only the end command is missing.
+/// MODEL R2: the session ends after each number of bytes of each command, the
+/// last number being the whole command, where only the end command is missing.
 fn cut_sessions() -> Vec<Session> {
     let mut list = Vec::new();
     for (name, command, counts) in CUTS {
@@ -83,8 +82,8 @@ fn cut_sessions() -> Vec<Session> {
     list
 }
 
-/// 3: every field number that 01 does not have, with a value that any field
-/// holds or with one that none of a few bits does. Reading goes on.
+/// MODEL R3: every number that is no field's, with a value that any field holds
+/// or with one that none of a few bits does. Reading goes on.
 fn unused_session(value: u64) -> Vec<u8> {
     let mut script = Script::new(&GIVEN);
     let unused = (0x0D..=0x0F)
@@ -100,7 +99,7 @@ fn unused_session(value: u64) -> Vec<u8> {
     script.finish_all()
 }
 
-/// 4 for the flag operand of a tick, before the state is tested, and 5: levels
+/// MODEL R4 and R5: the flag of a tick, before the record is tested, and levels
 /// above 3. The level stays and reading goes on.
 fn flag_and_level_session() -> Vec<u8> {
     let mut script = Script::new(&GIVEN);
@@ -124,7 +123,8 @@ fn flag_and_level_session() -> Vec<u8> {
     script.finish()
 }
 
-/// Each refusal after which reading goes on, between commands that count.
+/// MODEL V2: each refusal after which reading goes on, between commands that
+/// count.
 fn reading_goes_on_session() -> Vec<u8> {
     let mut script = Script::new(&GIVEN);
     script.tick(0);
@@ -159,7 +159,8 @@ fn long(length: usize) -> Script {
     script
 }
 
-/// 6: 4,096 bytes are run, 4,097 are not, wherever the end command stands.
+/// MODEL R6: 4,096 bytes are run, 4,097 are not, wherever the end command
+/// stands.
 fn length_sessions() -> Vec<Session> {
     let ended = |length: usize| long(length - 1).end();
     let cut = || {

@@ -1,5 +1,6 @@
 //! Writes one directed session, command by command. It keeps the values that
-//! it has set, so that a change can be taken back, and knows no rule of 01.
+//! it has set, so that a change can be taken back, and knows no rule of
+//! docs/MODEL.md.
 
 use super::fields::*;
 use crate::generate::{counter_word, word};
@@ -13,7 +14,7 @@ pub type Switch = (u8, u64, u64);
 /// Offset of the external PMCNTENSET_EL0.
 pub const PMCNTENSET: u16 = 0xC00;
 
-/// The accesses that 01 has rules for.
+/// The accesses that have rules: MODEL T1 to T6 and I1 to I6.
 #[derive(Clone, Copy, PartialEq, Eq)]
 pub enum Kind {
     CounterRead,

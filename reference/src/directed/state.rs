@@ -1,6 +1,6 @@
-//! "Refused because of the state" of document 01: each of 11 to 17 with its
-//! conditions flipped one at a time, and several together, for every command
-//! that tests the record and for set and level, which do not.
+//! MODEL R11 to R17 and V3: each of these refusals with its conditions flipped
+//! one at a time, and several together, for every command that tests the record
+//! and for set and level, which do not.
 
 use super::fields::*;
 use super::script::{Change, Kind, Script, Switch, PMCNTENSET};
@@ -160,7 +160,7 @@ fn row_session(row: &Row) -> Vec<u8> {
     script.finish()
 }
 
-/// 13 and 14 at the borders: HPMN beside N, with the largest N too.
+/// MODEL R13 and R14: HPMN beside N, with the largest N too.
 fn hpmn_session(have_el2: u64) -> Vec<u8> {
     let mut script = Script::new(&GIVEN);
     script.put(&[(LEVEL, 1), (EL2_ENABLED, 0), (HAVE_EL2, have_el2)]);
@@ -179,7 +179,7 @@ fn hpmn_session(have_el2: u64) -> Vec<u8> {
     script.finish()
 }
 
-/// 15 for each counter, those from N up too: 2^32 and the value before it.
+/// MODEL R15: each counter, those from N up too: 2^32 and the value before it.
 fn wide_counters_session() -> Vec<u8> {
     let mut script = Script::new(&GIVEN);
     script.put(&[(P9, 0), (P5, 0), (N, 4)]);
@@ -192,7 +192,7 @@ fn wide_counters_session() -> Vec<u8> {
     script.finish_all()
 }
 
-/// 17: all subsets of its four features, at each level.
+/// MODEL R17: all subsets of its four features, at each level.
 fn features_session() -> Vec<u8> {
     let switches: [Switch; 4] = [(PMUV3, 1, 0), (P5, 1, 0), (P9, 1, 0), (ICNTR, 1, 0)];
     let mut script = Script::new(&GIVEN);
@@ -220,8 +220,9 @@ const COMMANDS: [(&str, fn(&mut Script)); 9] = [
     ("tick", |s| s.tick(0)),
 ];
 
-/// Refusals together, so that the lowest number shows: 11, 12, 13, 15, 16 and
-/// 17 in all subsets that can be; then 14 in place of 12 and 13; then level 2.
+/// MODEL V3: refusals together, so that the lowest number shows. R11, R12, R13,
+/// R15, R16 and R17 in all subsets that can be; then R14 in place of R12 and
+/// R13; then level 2.
 fn subsets_session(command: fn(&mut Script)) -> Vec<u8> {
     let wide = (COUNTER + 30, 1 << 32);
     let mut script = Script::new(&GIVEN);

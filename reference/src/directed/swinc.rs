@@ -1,5 +1,5 @@
-//! "Permitted accesses" of document 01 to PMSWINC: each operand bit, which bits
-//! are ignored, event numbers, and wrapping.
+//! MODEL G8 to G10: granted writes of PMSWINC. Each operand bit, which bits are
+//! ignored, event numbers, and wrapping.
 
 use super::fields::*;
 use super::script::{Change, Kind, Script, Switch};
@@ -137,7 +137,7 @@ fn event_counters_session() -> Vec<u8> {
     script.finish_all()
 }
 
-/// Counters at the borders, incremented three times: with p5 they wrap at 2^64,
+/// Counters at the borders, incremented four times: with p5 they wrap at 2^64,
 /// without it at 2^32. Enables do not matter.
 fn wrap_session(p5: u64) -> Vec<u8> {
     let top = if p5 == 1 { u64::MAX } else { 0xFFFF_FFFF };

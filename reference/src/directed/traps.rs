@@ -1,6 +1,6 @@
-//! "Order of traps" of document 01 for PMEVCNTR and PMSWINC: each rule at each
-//! level with each of its conditions flipped, and all rules in all subsets, so
-//! that the order shows.
+//! MODEL T1 to T10: PMEVCNTR and PMSWINC. Each rule at each level with each of
+//! its conditions flipped, and all rules in all subsets, so that the order
+//! shows.
 
 use super::fields::*;
 use super::script::{debug_states, Change, Kind, Script, Switch};
@@ -35,7 +35,7 @@ impl Rule {
     }
 }
 
-/// The fine-grained bit of a register and direction.
+/// MODEL T8: the fine-grained bit of a register and direction.
 fn fine_grained(kind: Kind) -> u8 {
     match kind {
         Kind::CounterRead => FGT_COUNTER_READ,
@@ -44,13 +44,13 @@ fn fine_grained(kind: Kind) -> u8 {
     }
 }
 
-/// Rule 1: undefined ahead of the other rules.
+/// MODEL T1: undefined ahead of the other rules.
 fn rule_1(_: Kind) -> Rule {
     let conditions = [(HAVE_EL3, 1), (HALTED, 1), (SDD, 1), (EL3_PRIORITY, 1), (TPM_EL3, 1)];
     Rule::of_bits(&conditions, &[&[(EN, 0)], &[(TPM_EL2, 1)], &[(HPMN, 3)]])
 }
 
-/// Rule 2: PMUSERENR at level 0; TGE and EL2 choose the target.
+/// MODEL T2 and T7: PMUSERENR at level 0; TGE and EL2 choose the target.
 fn rule_2(kind: Kind) -> Rule {
     let conditions: &[Change] = match kind {
         Kind::CounterRead => &[(EN, 0), (ER, 0)],
@@ -71,7 +71,7 @@ fn rule_2(kind: Kind) -> Rule {
     Rule::of_bits(conditions, &more)
 }
 
-/// Rule 3: the fine-grained bit of this register and direction alone.
+/// MODEL T3, T8 and T9: no fine-grained bit but that of the access.
 fn rule_3(kind: Kind) -> Rule {
     let bit = fine_grained(kind);
     let conditions = [(EL2_ENABLED, 1), (FGT, 1), (FGTEN, 1), (bit, 1)];
@@ -96,14 +96,14 @@ fn rule_3(kind: Kind) -> Rule {
     rule
 }
 
-/// Rule 4: MDCR_EL2.TPM; E2H and TGE do not matter to it.
+/// MODEL T4: MDCR_EL2.TPM; E2H and TGE do not matter to it.
 fn rule_4(_: Kind) -> Rule {
     let more: [&[Change]; 5] =
         [&[(HAVE_EL3, 0)], &[(E2H, 1)], &[(TGE, 1)], &[(E2H, 1), (TGE, 1)], &[(FGT, 0)]];
     Rule::of_bits(&[(EL2_ENABLED, 1), (TPM_EL2, 1)], &more)
 }
 
-/// Rule 5: counter 3 with HPMN 3, with or without FGT; never for PMSWINC.
+/// MODEL T5: counter 3 with HPMN 3, with or without FGT; never for PMSWINC.
 fn rule_5(_: Kind) -> Rule {
     let neighbours: Vec<Vec<Change>> = vec![
         vec![(EL2_ENABLED, 0)],
@@ -121,7 +121,7 @@ fn rule_5(_: Kind) -> Rule {
     Rule { applies: vec![(HPMN, 3)], neighbours }
 }
 
-/// Rule 6: MDCR_EL3.TPM, a trap to EL3 unless Halted and SDD.
+/// MODEL T6 and T10: MDCR_EL3.TPM, a trap to EL3 unless Halted and SDD.
 fn rule_6(_: Kind) -> Rule {
     let more: [&[Change]; 8] = [
         &[(HALTED, 1)],
@@ -152,7 +152,7 @@ fn rule_session(rule: &Rule, kind: Kind, level: u8) -> Vec<u8> {
     script.finish()
 }
 
-/// Rules 1 to 6, one switch for each; rule 1 needs rule 6's condition too.
+/// MODEL T1 to T6: one switch for each; T1 needs T6's condition too.
 fn switches(kind: Kind) -> [Switch; 6] {
     [
         (EL3_PRIORITY, 0, 1),
@@ -173,8 +173,8 @@ fn subsets_session(kind: Kind, level: u8, halted: u64) -> Vec<u8> {
     script.finish()
 }
 
-/// Levels 0 and 1 where EL2 is not enabled, or E2H and TGE are both 1: rules 3
-/// to 5 then go away, or rule 3 alone at level 0.
+/// Levels 0 and 1 where EL2 is not enabled, or E2H and TGE are both 1: T3 to T5
+/// then go away, or T3 alone at level 0.
 fn weakened_session(kind: Kind, changes: &[Change]) -> Vec<u8> {
     let mut script = Script::counters(&GIVEN);
     script.put(changes);

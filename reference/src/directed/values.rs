@@ -1,5 +1,5 @@
 //! Every field of the record by what it changes: its largest value and values
-//! beside it, and that a refused value (refusal 4) changes nothing.
+//! beside it, and that a refused value (MODEL R4) changes nothing.
 
 use super::fields::*;
 use super::script::{Change, Kind, Script, PMCNTENSET};
@@ -141,7 +141,7 @@ fn bits_session(rows: &[Row]) -> Vec<u8> {
     script.finish()
 }
 
-/// N and HPMN, largest 31: the external mask and rule 5 show them.
+/// N and HPMN, largest 31: the external mask and T5 show them.
 fn counts_session() -> Vec<u8> {
     let mut script = Script::new(&GIVEN);
     script.put(&[(LEVEL, 1), (ENABLES, ALL_ENABLES)]);

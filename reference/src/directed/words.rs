@@ -1,5 +1,5 @@
-//! "Instruction words" of document 01: the words of the three registers, those
-//! beside them, Rt, the accesses that are undefined at once, and the syndrome.
+//! MODEL W1 to W9 and U1 to U5: the words of the three registers, those beside
+//! them, Rt, the accesses that are undefined at once, and the syndrome.
 
 use super::fields::*;
 use super::script::{Change, Script};
@@ -130,8 +130,8 @@ fn syndrome_session(read: bool) -> Vec<u8> {
     script.finish()
 }
 
-/// Undefined at once, ahead of every rule: at each level, with the condition
-/// flipped, while rules 2, 4 and 6 all apply or none does.
+/// MODEL U1 to U5: undefined at once, ahead of every rule. At each level, with
+/// the condition flipped, while T2, T4 and T6 all apply or none does.
 fn undefined_session() -> Vec<u8> {
     let mut script = Script::new(&GIVEN);
     script.put(&[(HAVE_EL3, 1), (HPMN, 2), (N, 4)]);
@@ -167,7 +167,7 @@ fn undefined_cases(script: &mut Script) {
     });
 }
 
-/// m >= N for each N, at level 1 with EL2 not enabled.
+/// MODEL U2: m >= N for each N, at level 1 with EL2 not enabled.
 fn n_session(fgt: u64) -> Vec<u8> {
     let mut script = script();
     script.put(&[(EL2_ENABLED, 0), (HPMN0, 1), (HPMN, 0), (FGT, fgt)]);

@@ -1,12 +1,12 @@
-//! The rows P1 to P11 of document 01, and its list of readings that are wrong,
-//! each as a session.
+//! MODEL P1 to P11 and Q1 to Q4: the worked examples and the wrong readings,
+//! each as a session. Q1 has that of P9. P10 is done with counter 5.
 
 use super::fields::*;
 use super::script::{Change, Kind, Script, PMCNTENSET};
 use super::Session;
 use crate::generate::{counter_word, word};
 
-/// "Unless said" above the rows P1 to P11.
+/// MODEL P0: what P1 to P11 start from.
 const GIVEN: [Change; 12] = [
     (PMUV3, 1),
     (P5, 1),
@@ -128,8 +128,8 @@ fn row_session(steps: &[Step]) -> Vec<u8> {
     script.finish()
 }
 
-/// "Testing MDCR_EL3.TPM of rule 6 before HPMN, or trapping PMSWINC for a high
-/// bit": the HPMN trap comes first, and the bit is ignored.
+/// MODEL Q2: T5 comes before T6, and PMSWINC is not trapped for a bit at or
+/// above HPMN: the bit is ignored.
 fn order_session() -> Vec<u8> {
     let mut script = Script::new(&GIVEN);
     script.put(&[(HAVE_EL3, 1), (TPM_EL3, 1)]);
@@ -148,7 +148,7 @@ fn order_session() -> Vec<u8> {
     script.finish_all()
 }
 
-/// "Using HPMN in rule 5 or for a PMSWINC bit where EL2 is not enabled."
+/// MODEL Q3: while EL2 is not enabled, neither T5 nor PMSWINC looks at HPMN.
 fn not_enabled_session() -> Vec<u8> {
     let mut script = Script::new(&GIVEN);
     script.put(&[(EL2_ENABLED, 0)]);
@@ -166,7 +166,7 @@ fn not_enabled_session() -> Vec<u8> {
     script.finish_all()
 }
 
-/// "Letting a PMUACR bit bind level 1", and the bits of PMUSERENR there.
+/// MODEL Q4: no bit of PMUACR binds level 1, and none of PMUSERENR.
 fn level_1_session() -> Vec<u8> {
     let mut script = Script::new(&GIVEN);
     script.put(&[(UEN, 1), (ER, 1), (IR, 1), (ICNTR, 1), (COUNTER + 3, 0x13)]);
