@@ -5,7 +5,7 @@ function bad(where, what) { print where ": " what; failed = 1 }
 # Looks up one clause that was cited.
 function cite(id, where) {
     if (!(id in clause)) bad(where, "MODEL " id " is no clause of docs/MODEL.md")
-    else if (kind == "spec") stated[id] = 1
+    else if (kind == "spec" || (kind == "code" && id ~ /^X/)) stated[id] = 1
 }
 
 # The clauses between two that a range names. Numbers may have gaps.
@@ -48,9 +48,11 @@ function end_of_file() {
     found = 0
 }
 
-# What is asked of a file: that its definitions cite, that it cites somewhere, or only that what it cites is there.
+# What is asked of a file: that its definitions cite, that it cites somewhere, or only that what it cites is there. A clause on
+# calls and programs may stand at a function.
 function kind_of(file) {
     if (file ~ /^crates\/[^\/]*\/specs\//) return "spec"
+    if (file ~ /^crates\/[^\/]*\/src\//) return "code"
     if (file ~ /\.edit$/ || file ~ /^examples\/.*\.txt$/) return "cites"
     return "free"
 }
@@ -97,7 +99,7 @@ FILENAME == "docs/SESSIONS.md" {
 # In a file that is only looked up every line is text, so that a citation may go on in the next line.
 {
     line = $0
-    if (kind != "free" && line !~ /^ *(--|#)/) end_of_comment(line, FILENAME ":" FNR)
+    if ((kind == "spec" || kind == "cites") && line !~ /^ *(--|#)/) end_of_comment(line, FILENAME ":" FNR)
     else {
         sub(/^ *(--|#|\/\/[\/!]?|\*) ?/, "", line)
         text = text " " line
@@ -108,7 +110,7 @@ END {
     end_of_file()
     for (id in clause) {
         clauses++
-        if (!(id in stated)) bad(clause[id], id " is stated by no definition in specs/")
+        if (!(id in stated)) bad(clause[id], id " is stated by no definition")
     }
     if (!failed) print "clauses: " clauses " in docs/MODEL.md, each stated by a definition, and no definition without one"
     exit failed

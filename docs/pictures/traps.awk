@@ -24,12 +24,13 @@ function paint(target, word, ground, letters) {
 }
 
 # Who a stop leads to, in the order of its words: undefined, or the levels behind "to" and "at".
-function targets(said, list,    n) {
+function targets(said, list,    n, found) {
     n = 0
-    if (said ~ /undefined/) list[++n] = "undefined"
-    while (match(said, /(to|at) EL[1-3]/)) {
-        list[++n] = substr(said, RSTART + 3, 3)
+    while (match(said, /undefined|(to|at) EL[1-3]/)) {
+        found = substr(said, RSTART, RLENGTH)
         said = substr(said, RSTART + RLENGTH)
+        sub(/^(to|at) /, "", found)
+        list[++n] = found
     }
     return n
 }
@@ -102,7 +103,7 @@ function pill(x, y, t) {
 }
 
 # The column of table s, with the arrow into it: where it ends.
-function column(s, x, y, granted,    r, head) {
+function column(s, x, y, permitted,    r, head) {
     head = title[s]
     sub(/^Traps of /, "", head)
     down(x + RULE / 2, y, y + SHORT)
@@ -115,7 +116,7 @@ function column(s, x, y, granted,    r, head) {
         text(x + RULE / 2 + 10, y + STEP / 2 + 4, 12, SOFT, "does not apply")
         y += STEP
     }
-    pill(x, y, granted)
+    pill(x, y, permitted)
     return y + 34
 }
 
@@ -178,9 +179,9 @@ END {
     sub(/^[^:]*: /, "", order)
     parts = split(order, part, "; ")
     for (common = 0; common < parts && part[common + 1] !~ /order of traps/; ) common++
-    granted = part[parts]
-    if (common + 2 != parts || !sub(/^else it is /, "", granted)) fail("A2 does not end with the order of traps; else it is ..")
-    sub(/\.$/, "", granted)
+    permitted = part[parts]
+    if (common + 2 != parts || !sub(/^else it is /, "", permitted)) fail("A2 does not end with the order of traps; else it is ..")
+    sub(/\.$/, "", permitted)
 
     name = "Who stops an access, in which order, and who gets the trap"
     text(MARGIN, 36, 20, INK, name, " font-weight=\"bold\"")
@@ -190,7 +191,7 @@ END {
     legend(MARGIN + COLUMN + RULE + 10, 120)
     hints(MARGIN, 120)
     path(sprintf("M%d.5 %dv%dM%d.5 %d.5h%d", middle + RULE / 2, y, SHORT, MARGIN + RULE / 2, y + SHORT, COLUMN))
-    left = column("T", MARGIN, y + SHORT, granted)
-    y = larger(left, column("I", MARGIN + COLUMN, y + SHORT, granted))
+    left = column("T", MARGIN, y + SHORT, permitted)
+    y = larger(left, column("I", MARGIN + COLUMN, y + SHORT, permitted))
     print_picture(WIDE, y + MARGIN, name, "In order: " order told("T") told("I"))
 }

@@ -8,6 +8,7 @@ use crate::session::{parse, Command, Parsed};
 /// Text to bytes.
 pub fn assemble(text: &str) -> Result<Vec<u8>, String> {
     let mut bytes = Vec::new();
+    let text = text.strip_prefix('\u{feff}').unwrap_or(text);
     for (index, line) in text.lines().enumerate() {
         let code = line.split('#').next().unwrap_or("");
         for token in code.split_whitespace() {

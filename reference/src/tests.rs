@@ -145,6 +145,7 @@ fn notation_round_trip() {
 #[test]
 fn notation_errors() {
     assert_eq!(assemble("# 1\n\n 0a FF # x\nv:0x102"), Ok(vec![10, 255, 2, 1, 0, 0, 0, 0, 0, 0]));
+    assert_eq!(assemble("\u{feff}02 01\r\n\t00"), Ok(vec![2, 1, 0]));
     for bad in ["1", "123", "G0", "+1", "v:", "v:-1", "v:+1", "v:0x", "v:18446744073709551616"] {
         assert!(assemble(bad).is_err(), "{bad}");
     }

@@ -51,7 +51,7 @@ refusalNumber TgeAtEl1 = 16
 -- MODEL R17: a feature without the one that it builds on
 refusalNumber FeatureMissing = 17
 
--- MODEL L4: the level that takes a trap, as a digit
+-- MODEL L4: the level that takes a trap, as a number
 abbrev pub levelNumber : Level → ℕ
 levelNumber El1 = 1
 levelNumber El2 = 2

@@ -47,7 +47,7 @@ pub enum Answer {
     Refused(Refusal),
 }
 
-// MODEL R0. The number of a refusal.
+// MODEL R0: the number of a refusal.
 pub fn refusal_number(r: Refusal) -> u8
     ensures { λ n. ⌜ n ≡ refusalNumber r ⌝ }
 {

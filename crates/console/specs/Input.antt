@@ -4,7 +4,7 @@ use Prim.Native.Nat.{ℕ}
 use Rattle.io.specs.Counts.{Counts}
 use Rattle.console.specs.declared.Input.{Input}
 
--- MODEL X6 and X7: as many bytes of the buffer's front as were read; of an input that can't be read nothing is said
+-- MODEL X6, in part: no more bytes are said to be read than the buffer has
 abbrev pub Fits : Input → List ℕ → Type 0
 Fits (Input.Bytes n) buffer = Counts n buffer
 Fits Input.Failed buffer = Unit {0}

@@ -41,7 +41,7 @@ fn read(fd: i32, buffer: &mut [u8]) -> Input
     Input::Bytes(at)
 }
 
-// MODEL X7. Writes the bytes to standard output and answers true, or says on standard error why not all could be written.
+// MODEL X7: writes the bytes to standard output and answers true, or says on standard error why not all could be written.
 pub fn write(bytes: &[u8]) -> bool {
     let written = io::write_all(libc::STDOUT_FILENO, bytes);
     if !written {
@@ -59,7 +59,7 @@ fn print(input: &[u8]) -> bool {
     }
 }
 
-// MODEL X6, X7. Reads a session by the buffer and prints its lines, or says on standard error that `name` can't be read and runs
+// MODEL X6 and X7: reads a session by the buffer and prints its lines, or says on standard error that `name` can't be read and runs
 // nothing. False where lines could not be written.
 pub fn run(fd: i32, name: &[u8], buffer: &mut [u8]) -> bool {
     match read(fd, buffer) {

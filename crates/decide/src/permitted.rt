@@ -1,4 +1,4 @@
-// What a granted access is to do (MODEL G), decided without a counter.
+// What a permitted access is to do (MODEL G), decided without a counter.
 ghost use mathlib.Core.Bool.{cond, _&&_};
 ghost use mathlib.Core.Path.{_≡_};
 ghost use Prim.Native.Nat.{_%_, _^_};

@@ -7,7 +7,7 @@ use answer::Answer;
 use machine::Machine;
 use machine::Outcome;
 
-// The access with word w and operand x to the record that is lent.
+// MODEL X8: the access with word w and operand x to the record behind the reference.
 pub fn step(r: &mut Machine, w: u32, x: u64) -> Answer
     ensures { λ a. ⌜ (a ≡ step w x (now (r .entry)) .answer) × (now (r .exit) ≡ step w x (now (r .entry)) .machine) ⌝ }
 {

@@ -26,7 +26,7 @@ freshFeatures =
       n = 0;
     }
 
--- MODEL F3 to F13 and F18: the settings of the fresh record
+-- MODEL F2 to F13 and F18: the settings of the fresh record
 abbrev pub freshSettings : Settings
 freshSettings =
     record {
@@ -44,7 +44,7 @@ freshSettings =
       external = record { powered = false; doublelock = false; oslock = false; allowed = false; softwarelock = false };
     }
 
--- MODEL F18: the fresh record, in which nothing is but 0
+-- MODEL F18: the fresh record, in which all is 0
 abbrev pub fresh : Machine
 fresh =
     record {

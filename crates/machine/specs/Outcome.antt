@@ -4,7 +4,7 @@ use Rattle.answer.specs.declared.Refusal.{Refusal}
 use Rattle.machine.specs.declared.Machine.{Machine}
 use Rattle.machine.specs.declared.Outcome.{Outcome}
 
--- MODEL A3: an answer, with the record afterwards
+-- MODEL L1: an answer, with the record afterwards
 abbrev pub says : Answer → Machine → Outcome
 says a r = record { answer = a; machine = r }
 

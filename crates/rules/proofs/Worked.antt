@@ -26,6 +26,11 @@ use Rattle.rules.specs.External.{shownOf, enablesWritten, reach, effectO
 use Rattle.rules.specs.Example.{Example, perform, performAll, valid, allValid}
 use Rattle.rules.specs.Example.{usualSettings, usual, start, actual, expected}
 use Rattle.rules.specs.Worked.{worked, misreadings}
+use Rattle.rules.specs.ExamplesTraps.{trapExamples}
+use Rattle.rules.specs.ExamplesIcntr.{icntrExamples}
+use Rattle.rules.specs.ExamplesPermitted.{permittedExamples}
+use Rattle.rules.specs.ExamplesExternal.{externalExamples}
+use Rattle.rules.specs.ExamplesState.{stateExamples}
 use Rattle.rules.specs.Further.{further}
 
 -- the examples of a list hold
@@ -39,7 +44,8 @@ unfolding
     named register syndrome decode written disabledTrap stopAtEl3 counterRules counterOrder icntrRules icntrOrder
     pmevcntrStop pmswincStop pmicntrStop placeAccess addMask decideRegister decide incremented apply step fromBits
     shownOf enablesWritten reach effectOf externalRead externalWrite tick
-    perform performAll setAll usual start actual expected worked misreadings further
+    perform performAll setAll usual start actual expected worked misreadings
+    trapExamples icntrExamples permittedExamples externalExamples stateExamples further
 hold = (refl, refl, refl)
 
 -- MODEL P1 to P11
@@ -56,5 +62,7 @@ further-hold = hold .2
 
 -- every set command of the examples, and of what they start from, is one that is not refused
 pub settings-valid : valid usualSettings && allValid (worked ++ misreadings ++ further) ≡ true
-unfolding largest valid allValid worked misreadings further
+unfolding
+    largest valid allValid worked misreadings
+    trapExamples icntrExamples permittedExamples externalExamples stateExamples further
 settings-valid = refl

@@ -1,7 +1,7 @@
 -- What a worked example is: a record, what is done to it, the answers, and the record afterwards.
 use Prim.Native.Nat.{ℕ}
 use mathlib.Core.Bool.{Bool, true, not, _&&_}
-use mathlib.Core.List.{List, [], _∷_, _++_}
+use mathlib.Core.List.{List, [], _∷_, _++_, map}
 use lib.Dec.{ltb}
 use Rattle.answer.specs.declared.Answer.{Answer}
 use Rattle.answer.specs.declared.Level.{Level}
@@ -86,10 +86,50 @@ actual e = performAll (e .actions) (start e)
 unfoldable pub expected : Example → Run
 expected e = record { answers = e .answers; machine = setAll (e .after) (start e) }
 
+-- MODEL P0: each of these fields set to 1
+abbrev pub on : List ℕ → List (ℕ × ℕ)
+on fields = map (λ f. (f, 1)) fields
+
+-- MODEL P0: an example by its parts
+abbrev pub shows : List (ℕ × ℕ) → ℕ → List Action → List Answer → List (ℕ × ℕ) → Example
+shows g l d r s = record { given = g; level = l; actions = d; answers = r; after = s }
+
+-- MODEL P0: one thing is done, it answers this, and nothing has changed
+abbrev pub answers : List (ℕ × ℕ) → ℕ → Action → Answer → Example
+answers g l d r = shows g l (d ∷ []) (r ∷ []) []
+
+-- MODEL P0: one thing is done, it answers `ok`, and this has changed
+abbrev pub changes : List (ℕ × ℕ) → ℕ → Action → List (ℕ × ℕ) → Example
+changes g l d s = shows g l (d ∷ []) (Answer.Ok ∷ []) s
+
 -- MODEL T11: a trap to this level with this syndrome
 abbrev pub trap : Level → ℕ → Answer
 trap l s = Answer.Trap (record { target = l; syndrome = s })
 
+-- MODEL G2: X2 gets this value
+abbrev pub gives : ℕ → Answer
+gives x = Answer.Mrs x 2
+
 -- MODEL W5: MSR PMSWINC_EL0, X1
 abbrev pub swinc : ℕ → Action
 swinc x = access 0xD51B9C81 x
+
+-- MODEL W4: MRS X2, PMEVCNTR3_EL0, of a counter below HPMN
+abbrev pub mrs3 : Action
+mrs3 = access 0xD53BE862 0
+
+-- MODEL W4: MSR PMEVCNTR3_EL0, X2
+abbrev pub msr3 : ℕ → Action
+msr3 x = access 0xD51BE862 x
+
+-- MODEL W4: MRS X2, PMEVCNTR4_EL0, of a counter at HPMN
+abbrev pub mrs4 : Action
+mrs4 = access 0xD53BE882 0
+
+-- MODEL W6: MRS X2, PMICNTR_EL0
+abbrev pub mrsIcntr : Action
+mrsIcntr = access 0xD53B9402 0
+
+-- MODEL W6: MSR PMICNTR_EL0, X2
+abbrev pub msrIcntr : ℕ → Action
+msrIcntr x = access 0xD51B9402 x

@@ -1,4 +1,4 @@
--- The rules on accesses in the order of docs/MODEL.md: the instruction word, the orders of traps, granted accesses, the step,
+-- The rules on accesses in the order of docs/MODEL.md: the instruction word, the orders of traps, permitted accesses, the step,
 -- external accesses and the tick, examples, and the claim of isolation.
 pub mod Word
 pub mod Traps
@@ -8,5 +8,10 @@ pub mod Step
 pub mod External
 pub mod Example
 pub mod Worked
+pub mod ExamplesTraps
+pub mod ExamplesIcntr
+pub mod ExamplesPermitted
+pub mod ExamplesExternal
+pub mod ExamplesState
 pub mod Further
 pub mod Isolation

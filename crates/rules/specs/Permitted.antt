@@ -1,4 +1,4 @@
--- Granted accesses, as far as they can be decided without a counter: what reads 0, what ignores a write, and which bits of
+-- Permitted accesses, as far as they can be decided without a counter: what reads 0, what ignores a write, and which bits of
 -- PMSWINC count.
 use Prim.Native.Nat.{ℕ}
 use mathlib.Core.Bool.{Bool, cond, not, _&&_, _||_}
@@ -14,8 +14,8 @@ use Rattle.rules.specs.declared.Place.the-variants.{Counter, Instruction
 use Rattle.rules.specs.Word.{written}
 use Rattle.rules.specs.Traps.{atEl0, upTo, el2Enabled, atOrAboveHpmn}
 
--- MODEL G2 and G7: a granted access of a place. Where it is denied, it reads 0 and ignores writes; where it is read-only, it
--- ignores writes
+-- MODEL G2 and G4 to G7: a permitted access of a place. Where it is denied, it reads 0 and ignores writes; where it is
+-- read-only, it ignores writes
 unfoldable pub placeAccess : Bool → Bool → Place → Instruction → ℕ → Decision
 placeAccess isDenied isReadOnly place i x =
     cond (i .read)
@@ -34,7 +34,7 @@ denied v m = pmuacrBinds v && not (bit m (v .settings .pmuacr .p))
 abbrev pub readOnly : View → Bool
 readOnly v = pmuacrBinds v && v .settings .pmuserenr .er
 
--- MODEL G2, G4 and G5: a granted access of PMEVCNTR<m>
+-- MODEL G2, G4 and G5: a permitted access of PMEVCNTR<m>
 abbrev pub pmevcntrAccess : View → ℕ → Instruction → ℕ → Decision
 pmevcntrAccess v m i x = placeAccess (denied v m) (readOnly v) (Counter m) i x
 
@@ -46,7 +46,7 @@ deniedF0 v = atEl0 v && not (v .settings .pmuacr .f0)
 abbrev pub readOnlyIr : View → Bool
 readOnlyIr v = atEl0 v && v .settings .pmuserenr .ir
 
--- MODEL G2 and G6: a granted access of PMICNTR
+-- MODEL G2 and G6: a permitted access of PMICNTR
 abbrev pub pmicntrAccess : View → Instruction → ℕ → Decision
 pmicntrAccess v i x = placeAccess (deniedF0 v) (readOnlyIr v) Instructions i x
 
@@ -65,6 +65,6 @@ ignored v m =
 unfoldable pub addMask : View → ℕ → ℕ
 addMask v x = fromBits 31 (λ m. bit m x && not (ignored v m))
 
--- MODEL G8: a granted write of PMSWINC
+-- MODEL G8: a permitted write of PMSWINC
 abbrev pub pmswincAccess : View → Instruction → ℕ → Decision
 pmswincAccess v i x = Add (addMask v (written i x))

@@ -37,20 +37,20 @@ stopOf v Pmswinc read = pmswincStop v
 stopOf v Pmicntr read = pmicntrStop v read
 stopOf v Other read = Stop.Pass
 
--- MODEL G2, G8 and W7: a granted access; a word of no register of the model's answers `other`
+-- MODEL G2, G8 and W7: a permitted access; a word of no register of the model's answers `other`
 abbrev pub permitted : View → Register → Instruction → ℕ → Decision
 permitted v (Pmevcntr m) i x = pmevcntrAccess v m i x
 permitted v Pmswinc i x = pmswincAccess v i x
 permitted v Pmicntr i x = pmicntrAccess v i x
 permitted v Other i x = Says Answer.Other
 
--- MODEL T11: an access that the order of traps passes is granted, and a trap answers its target and the syndrome
+-- MODEL T11: an access that the order of traps passes is permitted, and a trap answers its target and the syndrome
 abbrev pub unlessStopped : ℕ → Stop → Decision → Decision
 unlessStopped syndrome Stop.Pass d = d
 unlessStopped syndrome Stop.Undef d = Says Answer.Undef
 unlessStopped syndrome (Stop.Trap l) d = Says (Answer.Trap (record { target = l; syndrome = syndrome }))
 
--- MODEL A2: the access to a register of a consistent record: undefined at once, or stopped by the order of traps, or granted
+-- MODEL A2: the access to a register of a consistent record: undefined at once, or stopped by the order of traps, or permitted
 unfoldable pub decideRegister : View → Register → Instruction → ℕ → Decision
 decideRegister v r i x =
     cond (undefinedAtOnce v r (i .read)) (Says Answer.Undef)

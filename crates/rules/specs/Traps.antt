@@ -17,11 +17,11 @@ upTo l v = leb (v .level) l
 abbrev pub atEl0 : View → Bool
 atEl0 v = eqb (v .level) 0
 
--- MODEL F3: EL2 is enabled, which T3 to T5 and I2 to I4 ask for. R14 and R13 ask whether it is implemented
+-- MODEL F3: EL2 is enabled, which T2 to T5, I2 to I4 and G9 look at. R13 and R14 look at whether it is implemented
 abbrev pub el2Enabled : View → Bool
 el2Enabled v = v .settings .execution .el2enabled
 
--- MODEL F2: EL3 is implemented, which T1, T6, I1, I5 and I6 ask for
+-- MODEL F2: EL3 is implemented, which T1, T3, T6, I1, I2, I5 and I6 look at
 abbrev pub haveEl3 : View → Bool
 haveEl3 v = v .settings .features .el3
 

@@ -1,4 +1,4 @@
-// MODEL X6, X7. Reads a session from standard input and prints its lines. One byte over the limit is read, so that a session that
+// MODEL X6 and X7: reads a session from standard input and prints its lines. One byte over the limit is read, so that a session that
 // is too long is seen to be so.
 fn main() {
     let mut input = [0u8; 4097];

@@ -21,6 +21,10 @@ fn show(name: &[u8]) -> bool {
 fn show_argument(i: usize) -> bool {
     let mut name = [0u8; 64];
     let n = os::arg(i, &mut name);
+    if os::errno() != 0 {
+        os::fail(b"a name of over 64 bytes");
+        return true;
+    }
     show(&name[..n])
 }
 

@@ -94,6 +94,6 @@ refusals v =
     ∷ (featureMissing v, Refused FeatureMissing)
     ∷ []
 
--- MODEL V4: a record is consistent where no row applies
+-- MODEL V3 and V4: the first row that applies; a record is consistent where none does
 unfoldable pub verdictOf : View → Verdict
 verdictOf v = first (refusals v) Consistent

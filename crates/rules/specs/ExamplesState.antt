@@ -1,0 +1,42 @@
+-- Examples of the state refusals, as data.
+use mathlib.Core.Bool.{false}
+use mathlib.Core.List.{List, [], _∷_}
+use Rattle.answer.specs.declared.Answer.{Answer}
+use Rattle.answer.specs.declared.Level.the-variants.{El2}
+use Rattle.answer.specs.declared.Refusal.the-variants.{FieldTooLarge, LevelUnavailable, El2Unimplemented, HpmnAboveN, HpmnZero}
+use Rattle.answer.specs.declared.Refusal.the-variants.{CounterTooWide, TgeAtEl1, FeatureMissing}
+use Rattle.rules.specs.Example.{Example, answers, trap, gives, swinc, mrs3, msr3}
+use Rattle.rules.specs.Example.Action.{access, read, write, ticks}
+
+-- MODEL P12 and V3: for R10 to R17
+unfoldable pub stateExamples : List Example
+stateExamples =
+    -- MODEL R10, R11: level 4; level 3 without EL3; level 2 while EL2 is not enabled
+    answers [] 4 mrs3 (Answer.Refused FieldTooLarge)
+    ∷ answers [] 3 (access 0xD503201F 0) (Answer.Refused LevelUnavailable)
+    ∷ answers ((0x10, 0) ∷ []) 2 (ticks false) (Answer.Refused LevelUnavailable)
+    -- MODEL R12: also before an unknown offset
+    ∷ answers ((0x09, 0) ∷ []) 1 (read 0xC04) (Answer.Refused El2Unimplemented)
+    -- MODEL R13, R14: EL2 need not be enabled, but implemented; HPMN0 allows 0
+    ∷ answers ((0x27, 7) ∷ (0x10, 0) ∷ []) 1 mrs3 (Answer.Refused HpmnAboveN)
+    ∷ answers ((0x27, 7) ∷ (0x10, 0) ∷ (0x09, 0) ∷ (0x63, 9) ∷ []) 1 mrs3 (gives 9)
+    ∷ answers ((0x27, 0) ∷ []) 1 (write 0xC00 1) (Answer.Refused HpmnZero)
+    ∷ answers ((0x27, 0) ∷ (0x10, 0) ∷ (0x09, 0) ∷ (0x63, 9) ∷ []) 1 mrs3 (gives 9)
+    ∷ answers ((0x27, 0) ∷ (0x06, 1) ∷ []) 1 mrs3 (trap El2 0x6236F851)
+    -- MODEL R15: a counter from N on; not with p5, and not for the instruction counter
+    ∷ answers ((0x01, 0) ∷ (0x02, 0) ∷ (0x7E, 0x100000000) ∷ []) 1 (swinc 1) (Answer.Refused CounterTooWide)
+    ∷ answers ((0x7E, 0x100000000) ∷ (0x63, 9) ∷ []) 1 mrs3 (gives 9)
+    ∷ answers ((0x01, 0) ∷ (0x02, 0) ∷ (0x7E, 0xFFFFFFFF) ∷ (0x7F, 0x100000000) ∷ (0x63, 9) ∷ []) 1 mrs3 (gives 9)
+    -- MODEL R16: not while EL2 is not enabled, and not at level 2
+    ∷ answers ((0x25, 1) ∷ []) 1 (msr3 5) (Answer.Refused TgeAtEl1)
+    ∷ answers ((0x25, 1) ∷ (0x10, 0) ∷ (0x63, 9) ∷ []) 1 mrs3 (gives 9)
+    ∷ answers ((0x25, 1) ∷ (0x63, 9) ∷ []) 2 mrs3 (gives 9)
+    -- MODEL R17: p9 without p5; p5, p9 and ICNTR without PMUv3
+    ∷ answers ((0x01, 0) ∷ []) 1 (msr3 5) (Answer.Refused FeatureMissing)
+    ∷ answers ((0x00, 0) ∷ (0x02, 0) ∷ []) 1 mrs3 (Answer.Refused FeatureMissing)
+    ∷ answers ((0x00, 0) ∷ []) 1 mrs3 (Answer.Refused FeatureMissing)
+    ∷ answers ((0x00, 0) ∷ (0x01, 0) ∷ (0x02, 0) ∷ (0x03, 1) ∷ []) 1 mrs3 (Answer.Refused FeatureMissing)
+    -- MODEL V3: the lowest number: 11 before 13, 13 before 16
+    ∷ answers ((0x27, 7) ∷ []) 3 mrs3 (Answer.Refused LevelUnavailable)
+    ∷ answers ((0x27, 7) ∷ (0x25, 1) ∷ []) 1 mrs3 (Answer.Refused HpmnAboveN)
+    ∷ []
