@@ -1,6 +1,6 @@
 # Names the lines of a session's text that do not hold exactly one command: a command with too few bytes takes those of the next
 # line, and the bytes that are too many are read as commands. The commands and their sizes are those of clause S1 in MODEL.md,
-# which is read first.
+# which is read first; the text is standard input, and SESSION its name.
 
 FNR == 1 { file++ }
 
@@ -21,11 +21,12 @@ file == 1 && /^\| \**S1\** \|/ {
 file == 2 {
     sub(/#.*/, "")
     sub(/^\357\273\277/, "")
+    sub(/\r$/, "")
     if (NF == 0) next
     bytes = 0
     for (i = 1; i <= NF; i++) bytes += $i ~ /^v:/ ? 8 : 1
     byte = toupper($1)
-    where = FILENAME ":" FNR ": "
+    where = ENVIRON["SESSION"] ":" FNR ": "
     if (ended) print where "behind the end of the session"
     else if (!(byte in size)) print where "no command begins with " $1
     else if (bytes != size[byte]) print where bytes " bytes, and the command " name[byte] " has " size[byte]

@@ -1,5 +1,5 @@
--- Demand 3 of the code itself: what a run of calls is of which nothing is known but that a contract holds of each, and what is
--- claimed of two such runs. Nothing here depends on a proof. A contract as the check takes it from the source can be named in
+-- Demand 3 of the code itself: runs of calls of which nothing is known but the contract of each call, and what is claimed of two
+-- such runs. Nothing here depends on a proof. A contract as the check takes it from the source can be named in
 -- proofs/ only, so one definition more is to be read there for each step: `Call`, in proofs/Calls.antt for `access::step`, in
 -- proofs/LentCalls.antt for `access::lent`, and in proofs/Calls.antt of `in_place` for `in_place::step`.
 use Prim.Native.Nat.{ℕ}

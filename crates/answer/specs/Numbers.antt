@@ -36,7 +36,7 @@ refusalNumber LevelTooLarge = 5
 refusalNumber SessionTooLong = 6
 -- MODEL R10: the record holds a value above its largest
 refusalNumber FieldTooLarge = 10
--- MODEL R11: a level that is not to be had
+-- MODEL R11: a level that is not available
 refusalNumber LevelUnavailable = 11
 -- MODEL R12: EL2 enabled without being there
 refusalNumber El2Unimplemented = 12

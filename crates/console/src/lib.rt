@@ -59,8 +59,8 @@ fn print(input: &[u8]) -> bool {
     }
 }
 
-// MODEL X6 and X7: reads a session by the buffer and prints its lines, or says on standard error that `name` can't be read and runs
-// nothing. False where lines could not be written.
+// MODEL X6 and X7: reads a session into the buffer and prints its lines, or says on standard error that `name` can't be read and
+// runs nothing. False where lines could not be written.
 pub fn run(fd: i32, name: &[u8], buffer: &mut [u8]) -> bool {
     match read(fd, buffer) {
         Input::Bytes(n) => print(&buffer[..n]),

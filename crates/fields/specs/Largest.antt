@@ -13,8 +13,8 @@ within low high f = leb low f && leb f high
 abbrev pub isFlag : ℕ → Bool
 isFlag f = leb f 0x0B || within 0x10 0x12 f || within 0x20 0x26 f || within 0x28 0x31 f || eqb f 0x33 || within 0x38 0x3C f
 
--- MODEL F2 to F16: the kinds of fields, by their numbers, and the largest value of each: flags; N and HPMN; the P bits; the counter
--- enables; event numbers; counters
+-- MODEL F2 to F16: the kinds of fields, by their numbers, and the largest value of each: flags; N and HPMN; the P bits; the
+-- counter enables; event numbers; counters
 abbrev pub kinds : ℕ → List (Bool × ℕ)
 kinds f =
     (isFlag f, 1)
@@ -29,7 +29,7 @@ kinds f =
 unfoldable pub largest : ℕ → ℕ
 largest f = first (kinds f) 0
 
--- MODEL F19: the number is one of a field
+-- MODEL F19: the number is that of a field
 abbrev pub isField : ℕ → Bool
 isField f = ltb 0 (largest f)
 

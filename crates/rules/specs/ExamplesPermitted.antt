@@ -28,7 +28,8 @@ permittedExamples =
     -- MODEL G8: an event number other than 0
     ∷ answers ((0x41, 1) ∷ []) 2 (swinc 2) Answer.Ok
     ∷ answers ((0x43, 0x100) ∷ []) 2 (swinc 8) Answer.Ok
-    -- MODEL G9: SW 0 with the P bit 0, but not without p9 and not with UEN 0; m from N on; bits 63:31; HPMN at level 0
+    -- MODEL G9: SW 0 with the P bit 0; not with the P bit 1, not without p9, not with UEN 0; m from N on; bits 63:31; HPMN at
+    -- level 0
     ∷ answers ((0x23, 1) ∷ []) 0 (swinc 8) Answer.Ok
     ∷ changes ((0x23, 1) ∷ (0x32, 8) ∷ []) 0 (swinc 8) ((0x63, 1) ∷ [])
     ∷ changes ((0x02, 0) ∷ (0x23, 1) ∷ []) 0 (swinc 8) ((0x63, 1) ∷ [])

@@ -48,7 +48,7 @@ trapExamples =
     (mrs3 ∷ msr3 5 ∷ swinc 8 ∷ [])
     (gives 9 ∷ Answer.Ok ∷ trap El2 0x6238E438 ∷ [])
     ((0x63, 5) ∷ [])
-    -- MODEL T3: with EL3 it needs FGTEn; not without FGT, not without EL2, not at level 2
+    -- MODEL T3: with EL3 it needs FGTEn; not without FGT, not while EL2 is not enabled, not at level 2
     ∷ answers ((0x2C, 1) ∷ (0x0A, 1) ∷ (0x63, 9) ∷ []) 1 mrs3 (gives 9)
     ∷ answers (on (0x2C ∷ 0x0A ∷ 0x2A ∷ [])) 1 mrs3 (trap El2 0x6236F851)
     ∷ answers ((0x2C, 1) ∷ (0x04, 0) ∷ (0x63, 9) ∷ []) 1 mrs3 (gives 9)
@@ -59,7 +59,7 @@ trapExamples =
     ∷ answers ((0x2C, 1) ∷ (0x24, 1) ∷ []) 0 mrs3 (trap El2 0x6236F851)
     ∷ answers ((0x2C, 1) ∷ (0x25, 1) ∷ []) 0 mrs3 (trap El2 0x6236F851)
     ∷ answers ((0x63, 9) ∷ on (0x2C ∷ 0x24 ∷ 0x25 ∷ [])) 0 mrs3 (gives 9)
-    -- MODEL T4: both registers, at levels 0 and 1; before T6; not without EL2, not at level 2
+    -- MODEL T4: both registers, at levels 0 and 1; before T6; not while EL2 is not enabled, not at level 2
     ∷ shows ((0x26, 1) ∷ []) 1 (mrs3 ∷ swinc 8 ∷ []) (trap El2 0x6236F851 ∷ trap El2 0x6238E438 ∷ []) []
     ∷ answers ((0x26, 1) ∷ []) 0 mrs3 (trap El2 0x6236F851)
     ∷ answers (on (0x26 ∷ 0x0A ∷ 0x28 ∷ [])) 1 mrs3 (trap El2 0x6236F851)
@@ -68,7 +68,7 @@ trapExamples =
     -- MODEL T5: at level 0; without FGT
     ∷ answers [] 0 mrs4 (trap El2 0x6238F851)
     ∷ answers ((0x04, 0) ∷ []) 1 mrs4 (trap El2 0x6238F851)
-    -- MODEL T6, T10: at each level; undefined where Halted and SDD are 1; not without EL3
+    -- MODEL T6, T10: at levels 0 to 2; undefined where Halted and SDD are 1, and not where Halted alone is; not without EL3
     ∷ answers ((0x0A, 1) ∷ (0x28, 1) ∷ []) 0 mrs3 (trap El3 0x6236F851)
     ∷ answers ((0x0A, 1) ∷ (0x28, 1) ∷ []) 1 mrs3 (trap El3 0x6236F851)
     ∷ answers ((0x0A, 1) ∷ (0x28, 1) ∷ []) 2 mrs3 (trap El3 0x6236F851)

@@ -85,7 +85,7 @@ writeOf Pmcntenset x s = Enables (enablesWritten s x)
 abbrev pub tickOf : Bool → Settings → Effect
 tickOf prohibited s = cond (s .features .icntr && bit 32 (s .cnten) && not prohibited) Count (Says Answer.Ok)
 
--- MODEL E9: what is requested of a consistent record: no counter is looked at
+-- MODEL E9: the effect of a request on a consistent record; no counter is looked at
 unfoldable pub effectOf : Request → Settings → Effect
 effectOf (Read offset) s = Says (readOf (reach false offset s) s)
 effectOf (Write offset x) s = writeOf (reach true offset s) x s
@@ -96,7 +96,7 @@ abbrev pub unlessRefusedBy : Verdict → Effect → Effect
 unlessRefusedBy Consistent e = e
 unlessRefusedBy (Refused n) e = Says (Answer.Refused n)
 
--- MODEL E9 and V3: what is requested of any record
+-- MODEL E9 and V3: the effect of a request on any record
 abbrev pub judge : View → Request → Effect
 judge v q = unlessRefusedBy (verdictOf v) (effectOf q (v .settings))
 

@@ -67,7 +67,7 @@ syndrome w =
     + crm w * 2
     + direction w
 
--- MODEL W2 to W9: a word taken apart, once for all that follows: register, direction, Rt and syndrome
+-- MODEL W1 to W7 and W9: a word taken apart, once for all that follows: register, direction, Rt and syndrome
 unfoldable pub decode : ℕ → Instruction
 decode w = record { register = register w; read = isRead w; rt = rt w; syndrome = syndrome w }
 

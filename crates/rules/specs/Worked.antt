@@ -1,5 +1,5 @@
--- Worked examples as data: `worked` is the table of MODEL P1 to P11 (document 01: soundings), and `misreadings` has one for
--- each of the wrong readings MODEL Q2 to Q4; that for Q1 is P9.
+-- Worked examples as data: `worked` is the table of MODEL P1 to P11 (document 01: soundings), and `misreadings` has
+-- those for the wrong readings MODEL Q2 to Q4; that for Q1 is P9.
 use mathlib.Core.List.{List, [], _∷_}
 use Rattle.answer.specs.declared.Answer.{Answer}
 use Rattle.answer.specs.declared.Level.the-variants.{El1, El2, El3}
@@ -45,7 +45,7 @@ worked =
     ((0x34, 0x18000003F) ∷ [])
     ∷ []
 
--- MODEL Q1 to Q4: an example that tells each wrong reading from the rule; the first of them is P9
+-- MODEL Q1 to Q4: examples that tell the wrong readings from the rules: here those for Q2 to Q4; that for Q1 is P9, above
 unfoldable pub misreadings : List Example
 misreadings =
     -- MODEL Q2: from HPMN on a counter traps to EL2, and below it to EL3

@@ -26,7 +26,7 @@ abbrev pub anyWide : List ℕ → Bool
 anyWide [] = false
 anyWide (x ∷ xs) = leb (2 ^ 32) x || anyWide xs
 
--- MODEL V5: what a decision about an access may look at: the level, the settings and, of the counters, refusal 15's test alone
+-- MODEL V5: what a decision may look at: the level, the settings and, of the counters, refusal 15's test alone
 abbrev pub viewAt : ℕ → Settings → List ℕ → View
 viewAt l s counters = record { level = l; settings = s; wide = not (s .features .p5) && anyWide counters }
 
