@@ -9,6 +9,8 @@ mod fields;
 mod flips;
 mod icntr;
 mod input;
+mod overflow;
+mod pmovs;
 mod script;
 mod state;
 mod swinc;
@@ -44,6 +46,8 @@ pub fn all() -> Vec<Session> {
         counters::sessions,
         swinc::sessions,
         external::sessions,
+        overflow::sessions,
+        pmovs::sessions,
         worked::sessions,
     ];
     subjects.iter().flat_map(|sessions| sessions()).collect()

@@ -84,6 +84,10 @@ const PASSING: [(u8, u64); 16] = [
     (0x12, 35),
 ];
 
+/// LP and HLP, the bits that make counters overflow as long ones, and how often
+/// they start as 1.
+const LONG: [(u8, u64); 2] = [(0x35, 45), (0x36, 45)];
+
 /// Fields that stop accesses.
 const STOPPING: [u8; 9] = [0x25, 0x26, 0x28, 0x2C, 0x2D, 0x2E, 0x39, 0x3A, 0x3C];
 
@@ -147,7 +151,7 @@ impl Writer {
         let n = self.rng.pick(&[0, 1, 2, 3, 4, 6, 6, 8, 15, 16, 24, 30, 31, 31]);
         self.set(0x0C, n);
         if self.machine.have_el2 {
-            self.start_bit(0x10, 80);
+            self.start_bit(0x10, 75);
         }
         let hpmn = self.hpmn(n);
         self.set(0x27, hpmn);
@@ -171,6 +175,9 @@ impl Writer {
         for (field, percent) in PASSING {
             self.start_bit(field, percent);
         }
+        for (field, percent) in LONG {
+            self.start_bit(field, percent);
+        }
         for field in STOPPING {
             self.start_bit(field, self.trapping);
         }
@@ -179,6 +186,10 @@ impl Writer {
         if self.rng.chance(70) {
             let enables = self.rng.next() & 0x1_FFFF_FFFF;
             self.set(0x34, enables);
+        }
+        if self.rng.chance(40) {
+            let flags = self.flags();
+            self.set(0x37, flags);
         }
         self.change_level();
     }
@@ -220,11 +231,22 @@ impl Writer {
         }
     }
 
+    /// Overflow flags that the record can hold, more often few than many.
+    fn flags(&mut self) -> u64 {
+        let any = self.rng.next() & 0x1_7FFF_FFFF;
+        match self.rng.below(4) {
+            0 => any,
+            1 => 0x1_7FFF_FFFF,
+            2 => 0,
+            _ => any & self.rng.next() & self.rng.next(),
+        }
+    }
+
     /// A value of 64 bits, often beside a border.
     fn operand(&mut self) -> u64 {
         let small = self.rng.below(256);
         let any = self.rng.next();
-        match self.rng.below(9) {
+        match self.rng.below(11) {
             0 => small,
             1 => 0xFFFF_FFFF,
             2 => u64::MAX,
@@ -233,6 +255,8 @@ impl Writer {
             5 => 1u64 << (small % 64),
             6 => any & 0xFFFF_FFFF,
             7 => 0x1_0000_0000 + small % 3,
+            8 => small << 32 | 0xFFFF_FFFF,
+            9 => any | 0xFFFF_FFFF,
             _ => any,
         }
     }
@@ -240,6 +264,15 @@ impl Writer {
 
 // Commands in the middle of a session.
 impl Writer {
+    /// One command, or a few that make a counter run over.
+    fn step(&mut self) {
+        if self.rng.chance(8) {
+            self.run_over();
+        } else {
+            self.command();
+        }
+    }
+
     /// One command of any kind; an inconsistent machine is soon mended.
     fn command(&mut self) {
         if self.machine.state_refusal().is_some() && self.rng.chance(35) {
@@ -249,9 +282,9 @@ impl Writer {
         match self.rng.below(100) {
             0..=15 => self.some_set(),
             16..=27 => self.some_level(),
-            28..=77 => self.some_access(),
-            78..=83 => self.some_read(),
-            84..=89 => self.some_write(),
+            28..=74 => self.some_access(),
+            75..=82 => self.some_read(),
+            83..=89 => self.some_write(),
             _ => {
                 let flag = self.rng.pick(&[0, 0, 0, 0, 1, 1, 2, 0xFF]);
                 self.tick(flag);
@@ -264,7 +297,7 @@ impl Writer {
         let value = self.rng.next();
         match self.rng.below(20) {
             0 => {
-                let field = self.rng.pick(&[0x0D, 0x0F, 0x13, 0x1F, 0x35, 0x37, 0x3D, 0x5F, 0x80, 0xFF]);
+                let field = self.rng.pick(&[0x0D, 0x0F, 0x13, 0x1F, 0x3F, 0x5F, 0x80, 0xB7, 0xFF]);
                 self.set(field, value & 1);
             }
             1 => {
@@ -272,24 +305,45 @@ impl Writer {
                 self.set(field, value);
             }
             2 => {
-                let field = self.rng.pick(&[0x00, 0x0C, 0x10, 0x20, 0x27, 0x32, 0x34, 0x3C, 0x40, 0x5E]);
+                let list = [0x00, 0x0C, 0x10, 0x20, 0x27, 0x32, 0x34, 0x35, 0x36, 0x3C, 0x40, 0x5E];
+                let field = self.rng.pick(&list);
                 let largest = Machine::largest(field).unwrap_or(0);
                 self.set(field, largest + 1);
             }
             3 => self.spoil(),
+            4 => self.refused_flags(),
             _ => self.good_set(),
         }
     }
 
+    /// Overflow flags that are refused: bit 31 alone or among others, and bits
+    /// above 32. A few of them are not.
+    fn refused_flags(&mut self) {
+        let any = self.rng.next();
+        let flags = self.rng.pick(&[
+            1 << 31,
+            0xFFFF_FFFF,
+            0x1_8000_0000,
+            0x1_FFFF_FFFF,
+            0x1_7FFF_FFFF,
+            1 << 33,
+            u64::MAX,
+            any & 0x1_FFFF_FFFF,
+            any,
+        ]);
+        self.set(0x37, flags);
+    }
+
     /// A set command that leaves a consistent record consistent.
     fn good_set(&mut self) {
-        let field = match self.rng.below(8) {
+        let field = match self.rng.below(9) {
             0 => 0x60 + self.rng.below(32) as u8,
             1 => 0x40 + self.rng.below(31) as u8,
             2 => self.rng.pick(&[0x32, 0x34, 0x0C, 0x27]),
             3 => self.rng.below(0x0C) as u8,
             4 => self.rng.pick(&STOPPING),
             5 => 0x10 + self.rng.below(3) as u8,
+            6 => self.rng.pick(&[0x35, 0x36, 0x37]),
             _ => self.rng.pick(&PASSING).0,
         };
         let value = match field {
@@ -298,6 +352,7 @@ impl Writer {
             0x40..=0x5E => self.rng.pick(&[0, 0, 0, 1, 0xFFFF]),
             0x32 => self.rng.next() & 0x7FFF_FFFF,
             0x34 => self.rng.next() & 0x1_FFFF_FFFF,
+            0x37 => self.flags(),
             0x0C | 0x27 => self.rng.below(32),
             _ => self.rng.below(2),
         };
@@ -452,12 +507,21 @@ impl Writer {
         ours ^ 1 << self.rng.below(32)
     }
 
+    /// An offset, mostly of the enables or of the flags.
     fn offset(&mut self) -> u16 {
-        if self.rng.chance(85) {
-            return 0xC00;
-        }
         let any = self.rng.next() as u16;
-        self.rng.pick(&[0xC04, 0xBFF, 0xC01, 0x000, 0x00C, 0x1C00, 0xC20, any])
+        match self.rng.below(20) {
+            0..=8 => 0xC00,
+            9..=12 => 0xC80,
+            13..=16 => 0xCC0,
+            17 => self.rng.pick(&[0xC84, 0xC81, 0xC7F, 0x800C, 0x1C80, 0xCC4, 0xCC1, 0xC40]),
+            _ => self.rng.pick(&[0xC04, 0xBFF, 0xC01, 0x000, 0x00C, 0x1C00, 0xC20, any]),
+        }
+    }
+
+    /// The offset of PMOVSCLR_EL0 or PMOVSSET_EL0.
+    fn flags_offset(&mut self) -> u16 {
+        self.rng.pick(&[0xC80, 0xCC0])
     }
 
     fn some_read(&mut self) {
@@ -467,14 +531,158 @@ impl Writer {
 
     fn some_write(&mut self) {
         let offset = self.offset();
-        let value = self.operand();
+        let value = if self.rng.chance(50) { self.operand() } else { self.bits() };
         self.write(offset, value);
+    }
+
+    /// A value for an external register: bits beside N, 31, 32, all, or some.
+    fn bits(&mut self) -> u64 {
+        let any = self.rng.next();
+        match self.rng.below(8) {
+            0 => u64::MAX,
+            1 => 1 << 31,
+            2 => 1 << 32,
+            3 => 0x1_7FFF_FFFF,
+            4 => any & 0x1_FFFF_FFFF,
+            5 => 3 << self.machine.n >> 1,
+            _ => 1 << self.counter(),
+        }
+    }
+}
+
+// Counters that run over.
+impl Writer {
+    /// Brings counters next to a carry, counts, and looks at the flags, which
+    /// are now and then cleared or set before they are looked at again.
+    fn run_over(&mut self) {
+        if self.rng.chance(40) {
+            self.divide();
+        }
+        if self.rng.chance(30) {
+            let flags = self.flags();
+            self.set(0x37, flags);
+        }
+        if self.rng.chance(25) {
+            self.wrap_ticks();
+        } else {
+            self.carry_events();
+        }
+        if self.rng.chance(25) {
+            self.unlock();
+        }
+        let offset = self.flags_offset();
+        self.read(offset);
+        if self.rng.chance(30) {
+            let (offset, value) = (self.flags_offset(), self.bits());
+            self.write(offset, value);
+            let offset = self.flags_offset();
+            self.read(offset);
+        }
+    }
+
+    /// Changes one of the things that say where a counter overflows: LP, HLP,
+    /// HPMN, and whether EL2 is implemented; and whether EL2 is enabled.
+    fn divide(&mut self) {
+        let n = self.machine.n as u64;
+        match self.rng.below(6) {
+            0 | 1 => {
+                let (field, value) = (self.rng.pick(&LONG).0, self.rng.below(2));
+                self.set(field, value);
+            }
+            2 | 3 => {
+                let hpmn = self.hpmn(n);
+                self.set(0x27, hpmn);
+            }
+            4 => {
+                if self.machine.el == 2 {
+                    self.level(0);
+                }
+                self.set(0x10, 0);
+                if self.rng.chance(30) {
+                    self.set(0x09, 0);
+                }
+            }
+            _ if self.machine.have_el2 => self.set(0x10, 1),
+            _ => {
+                let hpmn = self.hpmn(n);
+                self.set(0x27, hpmn);
+                self.set(0x09, 1);
+            }
+        }
+    }
+
+    /// Some counters next to a carry, their event numbers mostly 0, then one
+    /// PMSWINC or two.
+    fn carry_events(&mut self) {
+        let mut operand = if self.rng.chance(20) { self.mask() } else { 0 };
+        for _ in 0..1 + self.rng.below(3) {
+            let m = self.counter().min(30) as u8;
+            operand |= 1 << m;
+            let value = self.carry_value();
+            self.set(0x60 + m, value);
+            if self.machine.event[m as usize] != 0 && self.rng.chance(70) {
+                self.set(0x40 + m, 0);
+            }
+        }
+        let rt = if self.rng.chance(3) { 31 } else { self.rng.below(31) as u32 };
+        for _ in 0..1 + self.rng.below(2) {
+            self.access(word(false, 9, 12, 4, rt), operand);
+        }
+    }
+
+    /// A value of an event counter that one or two increments carry over.
+    fn carry_value(&mut self) -> u64 {
+        let before = self.rng.pick(&[0, 0, 0, 1, 2]);
+        if !self.machine.pmuv3p5 {
+            return 0xFFFF_FFFF - before;
+        }
+        let upper = match self.rng.below(5) {
+            0 => 0,
+            1 => 1 + self.rng.below(3),
+            2 => self.rng.next() >> 32,
+            3 => 0xFFFF_FFFE,
+            _ => 0xFFFF_FFFF,
+        };
+        (upper << 32 | 0xFFFF_FFFF) - before
+    }
+
+    /// The instruction counter next to a carry, mostly enabled, and ticks.
+    fn wrap_ticks(&mut self) {
+        let before = self.rng.below(2);
+        let value = if self.rng.chance(85) { u64::MAX } else { self.operand() | 0xFFFF_FFFF };
+        self.set(0x7F, value - before);
+        if self.machine.pmcnten >> 32 == 0 && self.rng.chance(80) {
+            let enables = self.machine.pmcnten | 1 << 32;
+            self.set(0x34, enables);
+        }
+        for _ in 0..=before {
+            let flag = self.rng.pick(&[0, 0, 0, 0, 0, 0, 0, 1, 2]);
+            self.tick(flag);
+        }
+    }
+
+    /// Mends one thing or two that keep an external read from showing bits.
+    fn unlock(&mut self) {
+        let m = &self.machine;
+        let present = m.ext32 || m.ext64;
+        let list = [
+            (!present, 0x08, 1),
+            (!m.core_powered, 0x38, 1),
+            (m.double_lock, 0x39, 0),
+            (m.os_lock, 0x3A, 0),
+            (!m.external_allowed, 0x3B, 1),
+        ];
+        let wrong = list.iter().filter(|(wrong, _, _)| *wrong);
+        let mend: Vec<(u8, u64)> = wrong.map(|&(_, field, value)| (field, value)).collect();
+        for &(field, value) in mend.iter().take(2) {
+            self.set(field, value);
+        }
     }
 }
 
 // The end of a session.
 impl Writer {
-    /// Opens everything, then reads each counter and the enables.
+    /// Opens everything, then reads each counter, the enables and the flags.
     fn dump(&mut self) {
         const OPEN: [(u8, u64); 15] = [
             (0x10, 0), (0x00, 1), (0x01, 1), (0x03, 1), (0x06, 1),
@@ -490,6 +698,8 @@ impl Writer {
         }
         self.access(word(true, 9, 4, 0, 30), 0);
         self.read(0xC00);
+        let offset = self.flags_offset();
+        self.read(offset);
     }
 
     /// Mostly the end command alone.
@@ -566,7 +776,7 @@ pub fn session(seed: u64, index: u64) -> Vec<u8> {
     }
     let count = writer.rng.pick(&[3, 10, 30, 60, 100, 120]);
     for _ in 0..count {
-        writer.command();
+        writer.step();
     }
     if writer.rng.chance(65) {
         writer.dump();

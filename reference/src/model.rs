@@ -1,6 +1,7 @@
 //! The machine record and what it answers, shaped after the pseudocode of the
 //! four register pages of Arm's. Each page has one function per exception
-//! level; the machine is passed by reference.
+//! level; the machine is passed by reference. The external overflow registers
+//! have no page: they follow that of PMCNTENSET_EL0.
 
 /// Everything a command can answer, except the end of a session.
 #[derive(Clone, Copy, Debug, PartialEq, Eq)]
@@ -34,6 +35,10 @@ const EL3: u8 = 3;
 
 const BIT_C: u64 = 1 << 31;
 const BIT_F0: u64 = 1 << 32;
+
+/// Every overflow flag: those of 31 event counters and that of PMICNTR_EL0.
+/// Bit 31 would be PMCCNTR_EL0's, of which there is no model.
+const PMOVS_BITS: u64 = BIT_F0 | 0x7FFF_FFFF;
 
 /// MODEL F1 to F18: the machine record. A fresh one is all zero.
 #[derive(Clone, Debug, Default, PartialEq, Eq)]
@@ -86,6 +91,11 @@ pub struct Machine {
     pub pmuacr_p: u32,
     pub pmuacr_f0: bool,
     pub pmcnten: u64,
+    // Overflow: PMCR_EL0.LP, MDCR_EL2.HLP, and the flags of PMOVSCLR_EL0 and
+    // PMOVSSET_EL0.
+    pub lp: bool,
+    pub hlp: bool,
+    pub pmovs: u64,
     // External interface.
     pub core_powered: bool,
     pub double_lock: bool,
@@ -174,11 +184,18 @@ impl Machine {
             0x0C | 0x27 => Some(31),
             0x32 => Some(0x7FFF_FFFF),
             0x34 => Some(0x1_FFFF_FFFF),
-            0x00..=0x0B | 0x10..=0x12 | 0x20..=0x34 | 0x38..=0x3C => Some(1),
+            0x37 => Some(0x1_7FFF_FFFF),
+            0x00..=0x0B | 0x10..=0x12 | 0x20..=0x36 | 0x38..=0x3C => Some(1),
             0x40..=0x5E => Some(0xFFFF),
             0x60..=0x7F => Some(u64::MAX),
             _ => None,
         }
+    }
+
+    /// A value below the largest that its field cannot hold all the same: the
+    /// overflow flags have a gap at bit 31.
+    fn in_gap(field: u8, value: u64) -> bool {
+        field == 0x37 && value & BIT_C != 0
     }
 
     /// The set command. The state is not tested.
@@ -187,7 +204,7 @@ impl Machine {
             Some(largest) => largest,
             None => return Answer::Refused(3),
         };
-        if value > largest {
+        if value > largest || Machine::in_gap(field, value) {
             return Answer::Refused(4);
         }
         match field {
@@ -195,6 +212,7 @@ impl Machine {
             0x27 => self.hpmn = value as u8,
             0x32 => self.pmuacr_p = value as u32,
             0x34 => self.pmcnten = value,
+            0x37 => self.pmovs = value,
             0x40..=0x5E => self.event[field as usize - 0x40] = value as u16,
             0x60..=0x7E => self.pmevcntr[field as usize - 0x60] = value,
             0x7F => self.pmicntr = value,
@@ -216,7 +234,7 @@ impl Machine {
     fn set_bit(&mut self, field: u8, value: bool) {
         let place = match field {
             0x00..=0x12 => self.feature(field),
-            0x20..=0x34 => self.control(field),
+            0x20..=0x36 => self.control(field),
             _ => self.external(field),
         };
         if let Some(place) = place {
@@ -267,6 +285,8 @@ impl Machine {
             0x30 => &mut self.hdfgwtr2_npmicntr,
             0x31 => &mut self.ir,
             0x33 => &mut self.pmuacr_f0,
+            0x35 => &mut self.lp,
+            0x36 => &mut self.hlp,
             _ => return None,
         })
     }
@@ -286,12 +306,22 @@ impl Machine {
 
 // The state tests.
 impl Machine {
-    /// MODEL V3: the lowest number of R10 to R17 that applies. R10 cannot: set
-    /// and set_level keep every field in its range.
+    /// MODEL R10: the level or a field is out of its range. Only a machine that
+    /// was put together field by field can be like that: set, set_level and the
+    /// other commands stay in range.
+    fn out_of_range(&self) -> bool {
+        let numbers = self.el > 3 || self.n > 31 || self.hpmn > 31;
+        let masks = self.pmuacr_p > 0x7FFF_FFFF || self.pmcnten > 0x1_FFFF_FFFF;
+        numbers || masks || self.pmovs & !PMOVS_BITS != 0
+    }
+
+    /// MODEL V3: the lowest number of R10 to R17 that applies.
     pub fn state_refusal(&self) -> Option<u8> {
         let wide = self.pmevcntr.iter().any(|&c| c >> 32 != 0);
         let needs_pmuv3 = self.pmuv3p5 || self.pmuv3p9 || self.icntr;
-        if self.el == 3 && !self.have_el3 || self.el == 2 && !self.el2_enabled {
+        if self.out_of_range() {
+            Some(10)
+        } else if self.el == 3 && !self.have_el3 || self.el == 2 && !self.el2_enabled {
             Some(11)
         } else if self.el2_enabled && !self.have_el2 {
             Some(12)
@@ -417,9 +447,29 @@ impl Machine {
             let i = m as usize;
             let counts = self.event[i] == 0;
             if operand >> m & 1 == 1 && counts && !self.pmswinc_ignores(m) {
+                if self.overflows(m) {
+                    self.pmovs |= 1 << m;
+                }
                 self.pmevcntr[i] = self.wrapped(self.pmevcntr[i].wrapping_add(1));
             }
         }
+    }
+
+    /// The bit that makes a counter overflow as a long one. HPMN divides the
+    /// counters wherever EL2 is implemented, enabled or not.
+    fn long(&self, m: u8) -> bool {
+        if self.have_el2 && m >= self.hpmn {
+            self.hlp
+        } else {
+            self.lp
+        }
+    }
+
+    /// One more is a carry out of the bits at which a counter overflows. These
+    /// are the low 32, also of a counter of 64 bits that is not a long one.
+    fn overflows(&self, m: u8) -> bool {
+        let bits = if self.pmuv3p5 && self.long(m) { u64::MAX } else { 0xFFFF_FFFF };
+        self.pmevcntr[m as usize] & bits == bits
     }
 
     /// An event counter has 64 bits with FEAT_PMUv3p5, else 32.
@@ -664,23 +714,39 @@ impl Machine {
     }
 }
 
-/// Offset of the external PMCNTENSET_EL0.
-const PMCNTENSET: u16 = 0xC00;
+/// The external registers that are modelled.
+#[derive(Clone, Copy, Debug, PartialEq, Eq)]
+enum External {
+    Pmcntenset,
+    Pmovsclr,
+    Pmovsset,
+}
 
-// Arm's page of the external PMCNTENSET_EL0, and ticks: MODEL E1 to E8, K1, K2.
+impl External {
+    /// The register at an offset, if it is one of ours.
+    fn at(offset: u16) -> Option<External> {
+        match offset {
+            0xC00 => Some(External::Pmcntenset),
+            0xC80 => Some(External::Pmovsclr),
+            0xCC0 => Some(External::Pmovsset),
+            _ => None,
+        }
+    }
+}
+
+// Arm's page of the external PMCNTENSET_EL0: MODEL E1 to E8. PMOVSCLR_EL0 and
+// PMOVSSET_EL0 are reached like it.
 impl Machine {
-    /// Tests that external reads and writes share; an answer ends the access.
-    fn external_tests(&self, offset: u16) -> Option<Answer> {
-        if let Some(number) = self.state_refusal() {
-            Some(Answer::Refused(number))
-        } else if offset != PMCNTENSET {
-            Some(Answer::Other)
-        } else {
-            None
+    /// Tests that external reads and writes share, up to which register it is;
+    /// an answer ends the access.
+    fn external_register(&self, offset: u16) -> Result<External, Answer> {
+        match self.state_refusal() {
+            Some(number) => Err(Answer::Refused(number)),
+            None => External::at(offset).ok_or(Answer::Other),
         }
     }
 
-    /// The register is there with either external interface.
+    /// The registers are there with either external interface.
     fn external_present(&self) -> bool {
         self.ext32 || self.ext64
     }
@@ -690,43 +756,71 @@ impl Machine {
         self.double_lock || !self.core_powered || self.os_lock || !self.external_allowed
     }
 
-    /// The bits that exist: P<m> for m < N, C, and F0 with ICNTR. F0 implies
-    /// the 64-bit form, so the width of the register cuts nothing more off.
-    fn pmcntenset_bits(&self) -> u64 {
+    /// The bits that exist: P<m> for m < N and F0 with ICNTR; of the enables C
+    /// too. F0 implies the 64-bit form, so the width of the register cuts
+    /// nothing more off.
+    fn external_bits(&self, register: External) -> u64 {
         let events = (1u64 << self.n) - 1;
         let f0 = if self.icntr { BIT_F0 } else { 0 };
-        events | BIT_C | f0
+        match register {
+            External::Pmcntenset => events | BIT_C | f0,
+            External::Pmovsclr | External::Pmovsset => events | f0,
+        }
+    }
+
+    /// What a register shows, were all of its bits there.
+    fn external_value(&self, register: External) -> u64 {
+        match register {
+            External::Pmcntenset => self.pmcnten,
+            External::Pmovsclr | External::Pmovsset => self.pmovs,
+        }
+    }
+
+    /// A write of ones that nothing holds back: two registers set, one clears.
+    fn external_store(&mut self, register: External, ones: u64) {
+        match register {
+            External::Pmcntenset => self.pmcnten |= ones,
+            External::Pmovsclr => self.pmovs &= !ones,
+            External::Pmovsset => self.pmovs |= ones,
+        }
     }
 
     /// The external read command.
     pub fn external_read(&self, offset: u16) -> Answer {
-        if let Some(answer) = self.external_tests(offset) {
-            answer
-        } else if !self.external_present() {
+        let register = match self.external_register(offset) {
+            Ok(register) => register,
+            Err(answer) => return answer,
+        };
+        if !self.external_present() {
             Answer::Value(0)
         } else if self.external_error() {
             Answer::Error
         } else {
-            Answer::Value(self.pmcnten & self.pmcntenset_bits())
+            Answer::Value(self.external_value(register) & self.external_bits(register))
         }
     }
 
-    /// The external write command: write one to set.
+    /// The external write command. Zeros change nothing.
     pub fn external_write(&mut self, offset: u16, value: u64) -> Answer {
-        if let Some(answer) = self.external_tests(offset) {
-            answer
-        } else if !self.external_present() {
+        let register = match self.external_register(offset) {
+            Ok(register) => register,
+            Err(answer) => return answer,
+        };
+        if !self.external_present() {
             Answer::Ok
         } else if self.external_error() {
             Answer::Error
         } else {
             if !self.software_lock {
-                self.pmcnten |= value & self.pmcntenset_bits();
+                self.external_store(register, value & self.external_bits(register));
             }
             Answer::Ok
         }
     }
+}
 
+// Ticks: MODEL K1 and K2.
+impl Machine {
     /// The tick command: one executed instruction.
     pub fn tick(&mut self, prohibited: u8) -> Answer {
         if prohibited > 1 {
@@ -737,6 +831,9 @@ impl Machine {
         }
         if self.icntr && self.pmcnten & BIT_F0 != 0 && prohibited == 0 {
             self.pmicntr = self.pmicntr.wrapping_add(1);
+            if self.pmicntr == 0 {
+                self.pmovs |= BIT_F0;
+            }
         }
         Answer::Ok
     }

@@ -150,7 +150,7 @@ fn field_name(field: u8) -> String {
 }
 
 /// Names of the fields outside the two rows of counters.
-const NAMES: [(u8, &str); 43] = [
+const NAMES: [(u8, &str); 46] = [
     (0x00, "PMUv3"),
     (0x01, "PMUv3p5"),
     (0x02, "PMUv3p9"),
@@ -188,6 +188,9 @@ const NAMES: [(u8, &str); 43] = [
     (0x32, "PMUACR.P"),
     (0x33, "PMUACR.F0"),
     (0x34, "counter enables"),
+    (0x35, "PMCR.LP"),
+    (0x36, "MDCR_EL2.HLP"),
+    (0x37, "overflow flags"),
     (0x38, "core powered"),
     (0x39, "double lock"),
     (0x3A, "OS lock"),

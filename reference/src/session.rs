@@ -75,7 +75,7 @@ pub fn parse(bytes: &[u8]) -> Parsed {
 }
 
 /// Obeys a command that is not the end.
-fn obey(machine: &mut Machine, command: Command) -> Answer {
+pub fn obey(machine: &mut Machine, command: Command) -> Answer {
     match command {
         Command::End => Answer::Ok,
         Command::Set { field, value } => machine.set(field, value),

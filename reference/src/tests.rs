@@ -1,7 +1,7 @@
 //! Tests: the worked session (MODEL S8), the worked examples (MODEL P1 to P11)
 //! through sessions, the limit, the round trip of the notation, the examples,
-//! and the orders of traps written a second time as the tables that they are
-//! (MODEL T1 to T6 and I1 to I6).
+//! the orders of traps written a second time as the tables that they are (MODEL
+//! T1 to T6 and I1 to I6), and the overflow flags against sums of 128 bits.
 
 use crate::generate::{self, Rng};
 use crate::model::{Answer, Machine};
@@ -151,6 +151,15 @@ fn notation_errors() {
     }
 }
 
+#[test]
+fn every_field_has_a_name() {
+    for field in 0..=0xFF {
+        let text = disassemble(&[1, field, 0, 0, 0, 0, 0, 0, 0, 0]);
+        let unknown = text.contains("no such field");
+        assert_eq!(unknown, Machine::largest(field).is_none(), "{text}");
+    }
+}
+
 /// The answers an example demands: `#>`, or `ok` for commands without it.
 fn demanded(text: &str) -> String {
     let mut output = String::new();
@@ -195,6 +204,7 @@ fn random_machine(rng: &mut Rng) -> Machine {
             if let Some(largest) = Machine::largest(field) {
                 let value = match field {
                     0x00 => 1,
+                    0x37 => rng.next() & largest,
                     0x40..=0x7E => rng.below(2),
                     _ if largest == u64::MAX => rng.next(),
                     _ => rng.below(largest + 1),
@@ -304,4 +314,252 @@ fn generated_sessions_repeat() {
         assert_eq!(generate::session(9, index), generate::session(9, index));
     }
     assert_ne!(generate::session(9, 0), generate::session(10, 0));
+}
+
+/// No command leads out of the ranges that MODEL R10 tests.
+#[test]
+fn generated_sessions_stay_in_range() {
+    for index in 0..3000 {
+        let output = run(&generate::session(11, index));
+        assert!(!output.contains("refused 10"), "session {index}");
+    }
+}
+
+/// Counters 3 and 4 have a value and are incremented at level 2, HPMN being 4:
+/// the flags, and the value of counter 3.
+fn carried(value: u64, more: &str) -> [String; 2] {
+    let text = format!("01 63 v:{value} 01 64 v:{value} {more} 02 02 03 81 9C 1B D5 v:24");
+    let mut answers = sound(&format!("{text} 04 80 0C 03 62 E8 3B D5 v:0")).into_iter();
+    let mut next = || answers.next().expect("answer");
+    [next(), next()]
+}
+
+#[test]
+fn carries_out_of_32_or_64_bits() {
+    let (low, all) = (0xFFFF_FFFF, u64::MAX);
+    let (lp, hlp, both) = ("01 35 v:1", "01 36 v:1", "01 35 v:1 01 36 v:1");
+    let narrow = "01 01 v:0 01 02 v:0";
+    let narrow_long = &format!("{narrow} {both}");
+    let rows: [(u64, &str, u64, u64); 16] = [
+        (low - 1, "", 0, low),
+        (low, "", 0x18, 0x1_0000_0000),
+        (low, lp, 0x10, 0x1_0000_0000),
+        (low, hlp, 0x08, 0x1_0000_0000),
+        (low, both, 0, 0x1_0000_0000),
+        (0x1_FFFF_FFFF, "", 0x18, 0x2_0000_0000),
+        (0x1_FFFF_FFFF, both, 0, 0x2_0000_0000),
+        (0xFFFF_FFFF_0000_0000, "", 0, 0xFFFF_FFFF_0000_0001),
+        (all - 1, both, 0, all),
+        (all, "", 0x18, 0),
+        (all, lp, 0x18, 0),
+        (all, hlp, 0x18, 0),
+        (all, both, 0x18, 0),
+        (low - 1, narrow, 0, low),
+        (low, narrow, 0x18, 0),
+        (low, narrow_long, 0x18, 0),
+    ];
+    for (value, more, flags, sum) in rows {
+        let expected = [format!("value {flags:016X}"), format!("value {sum:016X} 2")];
+        assert_eq!(carried(value, more), expected, "{value:X} {more}");
+    }
+}
+
+/// HLP needs EL2 implemented; enabled or not, it does not matter.
+#[test]
+fn hpmn_divides_where_el2_is_implemented() {
+    let start = "01 63 v:0xFFFFFFFF 01 64 v:0xFFFFFFFF 01 36 v:1 01 10 v:0 02 01";
+    let end = "03 81 9C 1B D5 v:24 04 80 0C";
+    assert_eq!(sound(&format!("{start} {end}")), ["value 0000000000000008"]);
+    assert_eq!(sound(&format!("{start} 01 09 v:0 {end}")), ["value 0000000000000018"]);
+    assert_eq!(sound(&format!("{start} 01 27 v:5 {end}")), ["value 0000000000000018"]);
+    assert_eq!(sound(&format!("{start} 01 27 v:3 {end}")), ["value 0000000000000000"]);
+}
+
+/// A counter that does not move gets no flag, and no flag goes away.
+#[test]
+fn only_increments_set_flags() {
+    let start = "01 63 v:0xFFFFFFFF 01 64 v:0xFFFFFFFF 01 37 v:1";
+    let end = "03 81 9C 1B D5 v:0xFFFFFFFFFFFFFFFF 04 80 0C";
+    let rows = [
+        ("02 02", "value 0000000000000019"),
+        ("02 01", "value 0000000000000009"),
+        ("02 02 01 43 v:1", "value 0000000000000011"),
+        ("02 02 01 0C v:4 01 27 v:4", "value 0000000000000009"),
+        ("02 00 01 23 v:1", "value 0000000000000001"),
+        ("02 00 01 23 v:1 01 21 v:1", "value 0000000000000009"),
+        ("02 02 01 63 v:0 03 81 E8 1B D5 v:0", "value 0000000000000001"),
+    ];
+    for (more, flags) in rows {
+        assert_eq!(sound(&format!("{start} {more} {end}")), [flags], "{more}");
+    }
+}
+
+#[test]
+fn ticks_set_bit_32() {
+    let start = "01 03 v:1 01 34 v:0x100000000 01 35 v:0";
+    let rows = [
+        ("01 7F v:0xFFFFFFFFFFFFFFFF 06 00", "value 0000000100000000"),
+        ("01 7F v:0xFFFFFFFFFFFFFFFF 06 01", "value 0000000000000000"),
+        ("01 7F v:0xFFFFFFFFFFFFFFFE 06 00", "value 0000000000000000"),
+        ("01 7F v:0xFFFFFFFFFFFFFFFE 06 00 06 00 06 00", "value 0000000100000000"),
+        ("01 7F v:0xFFFFFFFF 06 00", "value 0000000000000000"),
+        ("01 7F v:0xFFFFFFFFFFFFFFFF 01 34 v:0xFFFFFFFF 06 00", "value 0000000000000000"),
+        ("01 7F v:0xFFFFFFFFFFFFFFFF 01 03 v:0 06 00 01 03 v:1", "value 0000000000000000"),
+    ];
+    for (more, flags) in rows {
+        assert_eq!(sound(&format!("{start} {more} 04 C0 0C")), [flags], "{more}");
+    }
+}
+
+#[test]
+fn overflow_flags_have_no_bit_31() {
+    let mut machine = Machine::default();
+    for (value, taken) in [
+        (0x1_7FFF_FFFF, true),
+        (0, true),
+        (0x7FFF_FFFF, true),
+        (1 << 32, true),
+        (1 << 31, false),
+        (0xFFFF_FFFF, false),
+        (0x1_8000_0000, false),
+        (0x1_FFFF_FFFF, false),
+        (1 << 33, false),
+        (u64::MAX, false),
+    ] {
+        let before = machine.pmovs;
+        let expected = if taken { Answer::Ok } else { Answer::Refused(4) };
+        assert_eq!(machine.set(0x37, value), expected, "{value:X}");
+        assert_eq!(machine.pmovs, if taken { value } else { before });
+    }
+    let text = "01 03 v:1 05 C0 0C v:0xFFFFFFFFFFFFFFFF 04 80 0C 05 80 0C v:0x180000001 04 C0 0C";
+    assert_eq!(sound(text), ["value 000000010000003F", "value 000000000000003E"]);
+}
+
+/// Machines that no command makes.
+#[test]
+fn out_of_range() {
+    let changes: [(&str, fn(&mut Machine)); 9] = [
+        ("level", |r| r.el = 4),
+        ("N", |r| r.n = 32),
+        ("HPMN", |r| r.hpmn = 32),
+        ("PMUACR", |r| r.pmuacr_p = 1 << 31),
+        ("enables", |r| r.pmcnten = 1 << 33),
+        ("flags above", |r| r.pmovs = 1 << 33),
+        ("flags with bit 31", |r| r.pmovs = 1 << 31),
+        ("flags with bits 31 and 32", |r| r.pmovs = 3 << 31),
+        ("another refusal", |r| (r.pmovs, r.el2_enabled) = (1 << 31, true)),
+    ];
+    for (name, change) in changes {
+        let mut machine = Machine::default();
+        change(&mut machine);
+        let before = machine.clone();
+        assert_eq!(machine.state_refusal(), Some(10), "{name}");
+        assert_eq!(machine.access(0, 0), Answer::Refused(10), "{name}");
+        assert_eq!(machine.external_read(0xC80), Answer::Refused(10), "{name}");
+        assert_eq!(machine.external_write(0xC80, u64::MAX), Answer::Refused(10), "{name}");
+        assert_eq!(machine.tick(0), Answer::Refused(10), "{name}");
+        assert_eq!(machine, before, "{name}");
+    }
+    let mut machine = Machine { pmovs: 0x1_7FFF_FFFF, ..Machine::default() };
+    assert_eq!(machine.tick(0), Answer::Ok);
+}
+
+/// A value that is often next to a carry.
+fn near_carry(rng: &mut Rng, p5: bool) -> u64 {
+    let any = rng.next();
+    let value = match rng.below(5) {
+        0 => any | 0xFFFF_FFFF,
+        1 => u64::MAX,
+        2 => 0xFFFF_FFFF,
+        3 => any & !1 | 0xFFFF_FFFE,
+        _ => any,
+    };
+    if p5 {
+        value
+    } else {
+        value & 0xFFFF_FFFF
+    }
+}
+
+/// A counter after one more, and whether its flag is set by that.
+fn one_more(r: &Machine, m: u8) -> (u64, bool) {
+    let long = if m >= r.hpmn && r.have_el2 { r.hlp } else { r.lp };
+    let sum = r.pmevcntr[m as usize] as u128 + 1;
+    let width = if r.pmuv3p5 { 64 } else { 32 };
+    let overflow = if long { width } else { 32 };
+    ((sum % (1 << width)) as u64, sum % (1 << overflow) == 0)
+}
+
+/// PMSWINC at every level, against sums that do not wrap.
+#[test]
+fn increments_agree_with_sums() {
+    let mut rng = Rng::new(12, 13);
+    let mut seen = [0u32; 2];
+    for _ in 0..100_000 {
+        let mut machine = random_machine(&mut rng);
+        for m in 0..31 {
+            machine.pmevcntr[m] = near_carry(&mut rng, machine.pmuv3p5);
+        }
+        let operand = rng.next();
+        let mut expected = machine.clone();
+        for m in 0..31u8 {
+            let r = &machine;
+            let held = r.pmuv3p9 && r.uen && !r.sw && r.pmuacr_p >> m & 1 == 0;
+            let ignored = m >= r.n
+                || r.el <= 1 && r.el2_enabled && m >= r.hpmn
+                || r.el == 0 && held
+                || r.event[m as usize] != 0;
+            if rules(r, None, false) == 0 && operand >> m & 1 == 1 && !ignored {
+                let (value, flag) = one_more(r, m);
+                expected.pmevcntr[m as usize] = value;
+                expected.pmovs |= (flag as u64) << m;
+                seen[flag as usize] += 1;
+            }
+        }
+        machine.access(0xD51B_9C80, operand);
+        assert_eq!(machine, expected);
+    }
+    assert!(seen[0] > 10_000 && seen[1] > 10_000, "{seen:?}");
+}
+
+/// The external registers, bit by bit.
+#[test]
+fn external_registers_agree_bit_by_bit() {
+    let mut rng = Rng::new(14, 15);
+    let mut seen = [0u32; 3];
+    for _ in 0..50_000 {
+        let mut machine = random_machine(&mut rng);
+        let offset = [0xC00, 0xC80, 0xCC0][rng.below(3) as usize];
+        let value = rng.next();
+        let mut expected = machine.clone();
+        let r = &machine;
+        let present = r.ext32 || r.ext64;
+        let open = r.core_powered && r.external_allowed && !r.double_lock && !r.os_lock;
+        let mut shown = 0;
+        for bit in 0..64 {
+            let event = bit < 31 && bit < r.n;
+            let there = event || bit == 32 && r.icntr || bit == 31 && offset == 0xC00;
+            let flags = if offset == 0xC00 { r.pmcnten } else { r.pmovs };
+            if there && present {
+                shown |= flags & 1 << bit;
+                let one = value & 1 << bit;
+                match offset {
+                    _ if !open || r.software_lock => {}
+                    0xC00 => expected.pmcnten |= one,
+                    0xC80 => expected.pmovs &= !one,
+                    _ => expected.pmovs |= one,
+                }
+            }
+        }
+        let (read, written, kind) = match (present, open) {
+            (true, false) => (Answer::Error, Answer::Error, 0),
+            (true, true) => (Answer::Value(shown), Answer::Ok, 1),
+            (false, _) => (Answer::Value(0), Answer::Ok, 2),
+        };
+        assert_eq!(machine.external_read(offset), read, "{machine:?}");
+        assert_eq!(machine.external_write(offset, value), written, "{machine:?}");
+        assert_eq!(machine, expected, "{offset:X} {value:X}");
+        seen[kind] += 1;
+    }
+    assert!(seen.iter().all(|&count| count > 1000), "{seen:?}");
 }

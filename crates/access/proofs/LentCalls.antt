@@ -3,7 +3,7 @@
 use mathlib.Core.Logic.{∥∥₁-map}
 use mathlib.Core.Path.{_≡_, refl, sym, _∙_, ap}
 use borrow.Fn.World.{World}
-use Rattle.machine.specs.Machine.{withCounters, withInstructions}
+use Rattle.machine.specs.Machine.{withCounters, withInstructions, withOvs}
 use Rattle.rules.specs.Step.{step}
 use Rattle.access.specs.Calls.{Obeyed, Reference, to, MayGive, CallsNoninterference}
 use Rattle.access.specs.Lent.{Lent}
@@ -13,20 +13,21 @@ use Rattle.access.proofs.lent as lent′
 
 -- a call of `access::lent` with the parts of a record, its counters and its event numbers by any two references: an answer, an
 -- instruction counter, and counters behind the reference at its return, of which the contract holds, as the source states it.
--- The record afterwards has the new counters and the new instruction counter; the rest of it stayed with the caller.
+-- The record afterwards has the new counters, the new instruction counter and the new overflow flags; the rest of it stayed with
+-- the caller.
 abbrev pub Call : World → MayGive
 Call m w x r answer after =
     (p : Reference)
     × (q : Reference)
-    × (after ≡ withCounters (after .counters) (withInstructions (after .instructions) r))
+    × (after ≡ withCounters (after .counters) (withInstructions (after .instructions) (withOvs (after .ovs) r)))
     × Obeyed
     m
     lent′.ended
     (lent′.clauses (m .𝓤) (m .H) (m .𝓖 .A) (m .𝓜 .mem) (m .𝓡 .run))
     (p .lifetime, (q .lifetime, tt))
-    (to p (r .counters), (to q (r .events), (r .settings, (r .level, (r .instructions, (w, (x, tt)))))))
-    (after .counters, (tt, (tt, (tt, (tt, (tt, (tt, tt)))))))
-    (record { answer = answer; instructions = after .instructions })
+    (to p (r .counters), (to q (r .events), (r .settings, (r .level, (r .instructions, (r .ovs, (w, (x, tt))))))))
+    (after .counters, (tt, (tt, (tt, (tt, (tt, (tt, (tt, tt))))))))
+    (record { answer = answer; instructions = after .instructions; ovs = after .ovs })
 
 call-exact : (m : World) → Exact (Call m)
 call-exact m =
@@ -36,7 +37,7 @@ call-exact m =
           (said m (Lent (step w x r) _ (after .counters)) (c .3 tt (asked m)))
           (λ l. let o = whole w x r _ _ l in (ap (λ o. o .answer) o, c .2 ∙ ap (λ o. o .machine) o));
       may = λ w x r.
-          let l : Lent (step w x r) _ _ = record { answer = refl; instructions = refl; counters = refl } in
+          let l : Lent (step w x r) _ _ = record { answer = refl; instructions = refl; ovs = refl; counters = refl } in
           (any, any, sym (ap (λ o. o .machine) (whole w x r _ _ l)), λ g s. stated m (Lent (step w x r) _ _) l s);
     }
 

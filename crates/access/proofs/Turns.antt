@@ -1,7 +1,7 @@
 -- The loop of PMSWINC: a turn does to the list of counters what the next step of the sweep does, and the mask's remaining bits
 -- say when the rest of the counters stay.
 use Prim.Native.Nat.{ℕ, _+_, _*_, _/_, _%_, _^_, _<_, _≤_}
-use mathlib.Core.Bool.{Bool, cond, _&&_}
+use mathlib.Core.Bool.{Bool, false, cond, _&&_}
 use mathlib.Core.List.{List}
 use mathlib.Core.Path.{_≡_, sym, _∙_, ap, ap₂}
 use native.Mathlib.Nat.{div-lt-iff-lt-mul}
@@ -11,12 +11,20 @@ use lib.Dec.{eqb}
 use lib.ListN.{getD, set, length}
 use lib.Pow.{pow-pos, shr-shr}
 use Rattle.bits.proofs.Single.{bit-past}
-use Rattle.rules.specs.Apply.{width, plusOne, mapFrom, incremented}
+use Rattle.bits.specs.Bits.{bit}
+use Rattle.rules.specs.Overflow.{width, plusOne}
+use Rattle.rules.specs.Apply.{mapFrom, incremented}
 use Rattle.rules.proofs.Sweep.{sweep, sweep-map}
 
 -- the bits that are left after i turns
 pub half : (mask i rest : ℕ) → rest ≡ mask / 2 ^ i → rest / 2 ≡ mask / 2 ^ (i + 1)
 half mask i rest q = ap (λ r. r / 2) q ∙ shr-shr mask i 1
+
+-- with no bit left there is none from there on
+pub no-bit : (mask i : ℕ) → 0 ≡ mask / 2 ^ i → (j : ℕ) → i ≤ j → bit j mask ≡ false
+no-bit mask i q j h =
+    let low : mask < 1 * 2 ^ i = div-lt-iff-lt-mul (pow-pos i) .0 (omega arith) in
+    bit-past {x = mask} i j (omega arith) h
 
 module _ (p5 : Bool) (e : List ℕ) (mask : ℕ) (c : List ℕ) where
   -- one turn, from the bits that are left and the counter's event number
@@ -37,9 +45,7 @@ module _ (p5 : Bool) (e : List ℕ) (mask : ℕ) (c : List ℕ) where
   -- with no bit left a counter stays
   idle : (i : ℕ) → 0 ≡ mask / 2 ^ i → (j y : ℕ) → i ≤ j → incremented p5 e mask j y ≡ y
   unfolding incremented
-  idle i q j y h =
-      let low : mask < 1 * 2 ^ i = div-lt-iff-lt-mul (pow-pos i) .0 (omega arith) in
-      rw (bit-past {x = mask} i j (omega arith) h)
+  idle i q j y h = rw (no-bit mask i q j h)
 
   pub done-early : (i : ℕ) → 0 ≡ mask / 2 ^ i → sweep (incremented p5 e mask) i c ≡ mapFrom (incremented p5 e mask) 0 c
   done-early i q = sweep-map (incremented p5 e mask) i c (λ j y h k. idle i q j y h)

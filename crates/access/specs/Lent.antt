@@ -14,9 +14,10 @@ use Rattle.access.specs.declared.Said.{Said}
 pub record Lent (o : Outcome) (said : Said) (after : List ℕ) : Type 0 where
   pub answer : said .answer ≡ o .answer
   pub instructions : said .instructions ≡ o .machine .instructions
+  pub ovs : said .ovs ≡ o .machine .ovs
   pub counters : after ≡ o .machine .counters
 
--- MODEL X4: a decision applied to the record with these settings, event numbers, counters and instruction counter, whatever
--- its level
-abbrev pub Applied : Decision → Settings → List ℕ → List ℕ → ℕ → Said → List ℕ → Type 0
-Applied d s e c i said after = (l : ℕ) → Lent (apply d (machineOf l s e c i)) said after
+-- MODEL X4: a decision applied to the record with these settings, event numbers, counters, instruction counter and overflow
+-- flags, whatever its level
+abbrev pub Applied : Decision → Settings → List ℕ → List ℕ → ℕ → ℕ → Said → List ℕ → Type 0
+Applied d s e c i ovs said after = (l : ℕ) → Lent (apply d (machineOf l s e c i ovs)) said after

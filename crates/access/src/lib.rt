@@ -13,20 +13,29 @@ use machine::Settings;
 use rules::Decision;
 use rules::Place;
 
-// What an access answers, and the instruction counter after it.
+// What an access answers, and the instruction counter and the overflow flags after it.
 pub struct Said {
     pub answer: Answer,
     pub instructions: u64,
+    pub ovs: u64,
 }
 
 // What was decided, done to the counters that are lent. The level plays no part.
-fn apply(d: Decision, counters: &mut [u64], events: &[u16], s: Settings, instructions: u64) -> Said
-    ensures { λ said. ⌜ Applied d s (now (events .entry)) (now (counters .entry)) instructions said (now (counters .exit)) ⌝ }
+fn apply(
+    d: Decision,
+    counters: &mut [u64],
+    events: &[u16],
+    s: Settings,
+    instructions: u64,
+    ovs: u64,
+) -> Said
+    ensures { λ said. ⌜ Applied d s (now (events .entry)) (now (counters .entry)) instructions ovs said (now (counters .exit)) ⌝ }
 {
     match d {
         Decision::Says(a) => Said {
             answer: a,
             instructions: instructions,
+            ovs: ovs,
         },
         Decision::Read { place, rt } => match place {
             Place::Counter(m) => Said {
@@ -35,6 +44,7 @@ fn apply(d: Decision, counters: &mut [u64], events: &[u16], s: Settings, instruc
                     rt: rt,
                 },
                 instructions: instructions,
+                ovs: ovs,
             },
             Place::Instructions => Said {
                 answer: Answer::Mrs {
@@ -42,6 +52,7 @@ fn apply(d: Decision, counters: &mut [u64], events: &[u16], s: Settings, instruc
                     rt: rt,
                 },
                 instructions: instructions,
+                ovs: ovs,
             },
         },
         Decision::Write { place, value } => match place {
@@ -50,18 +61,21 @@ fn apply(d: Decision, counters: &mut [u64], events: &[u16], s: Settings, instruc
                 Said {
                     answer: Answer::Ok,
                     instructions: instructions,
+                    ovs: ovs,
                 }
             }
             Place::Instructions => Said {
                 answer: Answer::Ok,
                 instructions: value,
+                ovs: ovs,
             },
         },
         Decision::Add { mask } => {
-            counters::increment(counters, events, s.features.p5, mask);
+            let flags = counters::increment(counters, events, s, mask, ovs);
             Said {
                 answer: Answer::Ok,
                 instructions: instructions,
+                ovs: flags,
             }
         }
     }
@@ -74,16 +88,17 @@ pub fn lent(
     s: Settings,
     level: u8,
     instructions: u64,
+    ovs: u64,
     w: u32,
     x: u64,
 ) -> Said
     ensures { λ said. ⌜ Lent
-        (step w x (machineOf level s (now (events .entry)) (now (counters .entry)) instructions))
+        (step w x (machineOf level s (now (events .entry)) (now (counters .entry)) instructions ovs))
         said
         (now (counters .exit)) ⌝ }
 {
-    let d = decide::decide(state::view_at(level, s, counters), w, x);
-    apply(d, counters, events, s, instructions)
+    let d = decide::decide(state::view_at(level, s, counters, ovs), w, x);
+    apply(d, counters, events, s, instructions, ovs)
 }
 
 // The same access to a record by value.
@@ -94,17 +109,20 @@ pub fn step(w: u32, x: u64, mut r: Machine) -> Outcome
     let settings = r.settings;
     let level = r.level;
     let instructions = r.instructions;
+    let ovs = r.ovs;
     let said = lent(
         &mut r.counters,
         &events,
         settings,
         level,
         instructions,
+        ovs,
         w,
         x,
     );
     let answer = said.answer;
     r.instructions = said.instructions;
+    r.ovs = said.ovs;
     Outcome {
         answer: answer,
         machine: r,

@@ -1,10 +1,13 @@
-// External accesses and the tick: what is to be done, decided from a view in which there is no counter, and the doing.
-pub mod enables; // enables.rt: the enable bits that PMCNTENSET_EL0 shows and sets
+// External accesses and the tick: what is to be done, decided from a view in which there is no counter and no overflow flag,
+// and the doing.
+pub mod flags; // flags.rt: the bits of the registers that are in reach, set and cleared
 mod reach; // reach.rt: how far an access at an offset gets
 
 ghost use mathlib.Core.Path.{_≡_};
 ghost use Rattle.fields.specs.Store.{store};
-ghost use Rattle.rules.specs.External.{readOf, writeOf, tickOf, effectOf, judge, enact, externalRead, externalWrite, tick};
+ghost use Rattle.machine.specs.Machine.{withOvs};
+ghost use Rattle.rules.specs.External.{readOf, writeOf, tickOf, effectOf, ovsCounted, judge, enact};
+ghost use Rattle.rules.specs.External.{externalRead, externalWrite, tick};
 use answer::Answer;
 use machine::Machine;
 use machine::Outcome;
@@ -15,15 +18,17 @@ use rules::external::Request;
 use state::Verdict;
 use state::View;
 
-// What a read answers that gets so far.
-fn read_of(t: Reach, s: Settings) -> Answer
-    ensures { λ a. ⌜ a ≡ readOf t s ⌝ }
+// What a read does that gets so far.
+fn read_of(t: Reach, s: Settings) -> Effect
+    ensures { λ e. ⌜ e ≡ readOf t s ⌝ }
 {
     match t {
-        Reach::Other => Answer::Other,
-        Reach::Ignored => Answer::Value(0),
-        Reach::Error => Answer::Error,
-        Reach::Pmcntenset => Answer::Value(enables::shown_of(s, s.cnten)),
+        Reach::Other => Effect::Says(Answer::Other),
+        Reach::Ignored => Effect::Says(Answer::Value(0)),
+        Reach::Error => Effect::Says(Answer::Error),
+        Reach::Pmcntenset => Effect::Says(Answer::Value(flags::shown_of(true, s, s.cnten))),
+        Reach::Pmovsclr => Effect::ReadOvs,
+        Reach::Pmovsset => Effect::ReadOvs,
     }
 }
 
@@ -35,7 +40,13 @@ fn write_of(t: Reach, x: u64, s: Settings) -> Effect
         Reach::Other => Effect::Says(Answer::Other),
         Reach::Ignored => Effect::Says(Answer::Ok),
         Reach::Error => Effect::Says(Answer::Error),
-        Reach::Pmcntenset => Effect::Enables(enables::written(s, x)),
+        Reach::Pmcntenset => Effect::Enables(flags::raised(flags::shown_of(true, s, x), s.cnten)),
+        Reach::Pmovsclr => Effect::ClearOvs {
+            mask: flags::shown_of(false, s, x),
+        },
+        Reach::Pmovsset => Effect::SetOvs {
+            mask: flags::shown_of(false, s, x),
+        },
     }
 }
 
@@ -54,7 +65,7 @@ fn effect_of(q: Request, s: Settings) -> Effect
     ensures { λ e. ⌜ e ≡ effectOf q s ⌝ }
 {
     match q {
-        Request::Read(offset) => Effect::Says(read_of(reach::reach(false, offset, s), s)),
+        Request::Read(offset) => read_of(reach::reach(false, offset, s), s),
         Request::Write { offset, value } => write_of(reach::reach(true, offset, s), value, s),
         Request::Tick(prohibited) => tick_of(prohibited, s),
     }
@@ -81,6 +92,22 @@ fn with_cnten(e: u64, r: Machine) -> Machine
     next
 }
 
+// The record with these overflow flags.
+fn with_ovs(o: u64, r: Machine) -> Machine
+    ensures { λ m. ⌜ m ≡ withOvs o r ⌝ }
+{
+    let mut next = r;
+    next.ovs = o;
+    next
+}
+
+// The overflow flags after the instruction counter, which held y, went up.
+fn ovs_counted(y: u64, ovs: u64) -> u64
+    ensures { λ o. ⌜ o ≡ ovsCounted y ovs ⌝ }
+{
+    flags::raised(flags::part(y == 0xFFFFFFFFFFFFFFFF, 0x100000000), ovs)
+}
+
 // What an effect answers and does to the record.
 fn enact(e: Effect, r: Machine) -> Outcome
     ensures { λ o. ⌜ o ≡ enact e r ⌝ }
@@ -94,8 +121,23 @@ fn enact(e: Effect, r: Machine) -> Outcome
             answer: Answer::Ok,
             machine: with_cnten(x, r),
         },
+        Effect::ReadOvs => {
+            let settings = r.settings;
+            Outcome {
+                answer: Answer::Value(flags::shown_of(false, settings, r.ovs)),
+                machine: r,
+            }
+        }
+        Effect::ClearOvs { mask } => Outcome {
+            answer: Answer::Ok,
+            machine: with_ovs(flags::lowered(mask, r.ovs), r),
+        },
+        Effect::SetOvs { mask } => Outcome {
+            answer: Answer::Ok,
+            machine: with_ovs(flags::raised(mask, r.ovs), r),
+        },
         Effect::Count => {
-            let mut next = r;
+            let mut next = with_ovs(ovs_counted(r.instructions, r.ovs), r);
             next.instructions = std::num::wrapping_add_u64(r.instructions, 1);
             Outcome {
                 answer: Answer::Ok,

@@ -31,6 +31,8 @@ pub fn reach(writes: bool, offset: u16, s: Settings) -> Reach
 {
     match offset {
         0xC00 => unless_barred(writes, s, Reach::Pmcntenset),
+        0xC80 => unless_barred(writes, s, Reach::Pmovsclr),
+        0xCC0 => unless_barred(writes, s, Reach::Pmovsset),
         _ => Reach::Other,
     }
 }

@@ -1,16 +1,18 @@
 -- Laws of the set and level commands: one for each way that the tests can go.
 use Prim.Native.Nat.{ℕ, _<_, _≤_, _%_, _-_}
-use mathlib.Core.Bool.{Bool, true, false, cond, not, _||_}
+use mathlib.Core.Bool.{Bool, true, false, cond, not, _&&_, _||_}
 use mathlib.Core.List.{List}
 use mathlib.Core.Path.{_≡_, refl, sym}
 use native.Mathlib.Nat.{mod-eq-of-lt}
 use native.Mathlib.Omega.{arith}
-use borrow.Author.Tests.{lt-ltb, le-ltb, le-leb, leb-true, eqb-true}
-use lib.Dec.{leb, eqb}
+use borrow.Author.Tests.{lt-ltb, le-ltb, ltb-false, le-leb, leb-true, eqb-true}
+use lib.Dec.{leb, ltb, eqb}
+use Rattle.bits.specs.Bits.{bit}
 use Rattle.fields.proofs.Below.{below}
+use Rattle.machine.proofs.Bools.{or-right}
 use Rattle.answer.specs.declared.Refusal.the-variants.{UnknownField, ValueTooLarge, LevelTooLarge}
 use Rattle.machine.specs.declared.Machine.{Machine}
-use Rattle.fields.specs.Largest.{largest, largestLevel}
+use Rattle.fields.specs.Largest.{largest, exceeds, largestLevel}
 use Rattle.machine.specs.Machine.{withLevel}
 use Rattle.fields.specs.Store.{store, storeSettings, storeList}
 use Rattle.fields.specs.Set.{set, setLevel}
@@ -28,6 +30,10 @@ event-largest : (f : ℕ) → 0x40 ≤ f → f ≤ 0x5E → largest f ≡ 0xFFFF
 unfolding eventLargest
 event-largest f low high = eqb-true _ _ (rw (le-leb 0x40 f low) at (event-test f (omega arith)))
 
+-- a value that does not exceed its field's largest is at most that
+within-largest : (f v : ℕ) → exceeds v f ≡ false → v ≤ largest f
+within-largest f v h = ltb-false (largest f) v (or-right (eqb f 0x37 && bit 31 v) (ltb (largest f) v) h)
+
 -- an event number is at most 0xFFFF, so its low 16 bits are all of it
 event-fits : (f v : ℕ) → v ≤ largest f → (l : List ℕ) → storeList 0x40 f (v % 65536) l ≡ storeList 0x40 f v l
 event-fits f v h l = go (leb 0x40 f) refl (leb f 0x5E) refl
@@ -44,16 +50,16 @@ module _ (f v : ℕ) (m : Machine) where
   unfolding set
   set-unknown e = rw e
 
-  pub set-large : (largest f ≡ 0 → ⊥) → largest f < v → set f v m ≡ refused ValueTooLarge m
+  pub set-large : (largest f ≡ 0 → ⊥) → exceeds v f ≡ true → set f v m ≡ refused ValueTooLarge m
   unfolding set
-  set-large n h = rw (lt-ltb 0 (largest f) (omega arith), lt-ltb (largest f) v h)
+  set-large n h = rw (lt-ltb 0 (largest f) (omega arith), h)
 
-  pub set-stored : (largest f ≡ 0 → ⊥) → v ≤ largest f → set f v m ≡ done (store f v m)
+  pub set-stored : (largest f ≡ 0 → ⊥) → exceeds v f ≡ false → set f v m ≡ done (store f v m)
   unfolding set
-  set-stored n h = rw (lt-ltb 0 (largest f) (omega arith), le-ltb (largest f) v h)
+  set-stored n h = rw (lt-ltb 0 (largest f) (omega arith), h)
 
   -- the record that the code makes, where the event number has passed through 16 bits
-  pub set-stores : (largest f ≡ 0 → ⊥) → v ≤ largest f
+  pub set-stores : (largest f ≡ 0 → ⊥) → exceeds v f ≡ false
       → done
       (record {
         level = m .level;
@@ -61,10 +67,11 @@ module _ (f v : ℕ) (m : Machine) where
         events = storeList 0x40 f (v % 65536) (m .events);
         counters = storeList 0x60 f v (m .counters);
         instructions = cond (eqb f 0x7F) v (m .instructions);
+        ovs = cond (eqb f 0x37) v (m .ovs);
       })
       ≡ set f v m
   unfolding store
-  set-stores n h = rw (event-fits f v h (m .events)) (sym (set-stored n h))
+  set-stores n h = rw (event-fits f v (within-largest f v h) (m .events)) (sym (set-stored n h))
 
 module _ (l : ℕ) (m : Machine) where
   pub level-large : largestLevel < l → refused LevelTooLarge m ≡ setLevel l m

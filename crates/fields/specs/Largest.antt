@@ -3,24 +3,33 @@ use Prim.Native.Nat.{ℕ, _-_, _^_}
 use mathlib.Core.Bool.{Bool, _&&_, _||_}
 use mathlib.Core.List.{List, [], _∷_}
 use lib.Dec.{leb, ltb, eqb}
+use Rattle.bits.specs.Bits.{bit}
 use Rattle.machine.specs.First.{first}
 
 -- MODEL F1: a number from low to high, both included
 abbrev pub within : ℕ → ℕ → ℕ → Bool
 within low high f = leb low f && leb f high
 
--- MODEL F2 to F13: the numbers of the one-bit fields
+-- MODEL F2 to F13 and F21: the numbers of the one-bit fields
 abbrev pub isFlag : ℕ → Bool
-isFlag f = leb f 0x0B || within 0x10 0x12 f || within 0x20 0x26 f || within 0x28 0x31 f || eqb f 0x33 || within 0x38 0x3C f
+isFlag f =
+    leb f 0x0B
+    || within 0x10 0x12 f
+    || within 0x20 0x26 f
+    || within 0x28 0x31 f
+    || eqb f 0x33
+    || within 0x35 0x36 f
+    || within 0x38 0x3C f
 
--- MODEL F2 to F16: the kinds of fields, by their numbers, and the largest value of each: flags; N and HPMN; the P bits; the
--- counter enables; event numbers; counters
+-- MODEL F2 to F16, F21 and F22: the kinds of fields, by their numbers, and the largest value of each: one bit; N and HPMN; the P
+-- bits; the counter enables; the overflow flags; event numbers; counters
 abbrev pub kinds : ℕ → List (Bool × ℕ)
 kinds f =
     (isFlag f, 1)
     ∷ (eqb f 0x0C || eqb f 0x27, 31)
     ∷ (eqb f 0x32, 0x7FFFFFFF)
     ∷ (eqb f 0x34, 0x1FFFFFFFF)
+    ∷ (eqb f 0x37, 0x17FFFFFFF)
     ∷ (within 0x40 0x5E f, 0xFFFF)
     ∷ (within 0x60 0x7F f, 2 ^ 64 - 1)
     ∷ []
@@ -32,6 +41,10 @@ largest f = first (kinds f) 0
 -- MODEL F19: the number is that of a field
 abbrev pub isField : ℕ → Bool
 isField f = ltb 0 (largest f)
+
+-- MODEL R4, R10 and F22: v is above the largest value of field f; of the overflow flags, bit 31 counts as above it
+abbrev pub exceeds : ℕ → ℕ → Bool
+exceeds v f = (eqb f 0x37 && bit 31 v) || ltb (largest f) v
 
 -- MODEL F17: the largest level
 abbrev pub largestLevel : ℕ

@@ -6,7 +6,7 @@ use lib.Dec.{ltb}
 use Rattle.answer.specs.declared.Refusal.the-variants.{UnknownField, ValueTooLarge, LevelTooLarge}
 use Rattle.machine.specs.declared.Machine.{Machine}
 use Rattle.machine.specs.declared.Outcome.{Outcome}
-use Rattle.fields.specs.Largest.{largest, isField, largestLevel}
+use Rattle.fields.specs.Largest.{isField, exceeds, largestLevel}
 use Rattle.machine.specs.Machine.{withLevel}
 use Rattle.machine.specs.Outcome.{refused, done}
 use Rattle.fields.specs.Store.{store}
@@ -15,7 +15,7 @@ use Rattle.fields.specs.Store.{store}
 unfoldable pub set : ℕ → ℕ → Machine → Outcome
 set f v m =
     cond (not (isField f)) (refused UnknownField m)
-    (cond (ltb (largest f) v) (refused ValueTooLarge m)
+    (cond (exceeds v f) (refused ValueTooLarge m)
     (done (store f v m)))
 
 -- MODEL S2: the record after these set commands, each a field and a value; one that is refused leaves it as it was

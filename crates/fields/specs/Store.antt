@@ -8,6 +8,7 @@ use lib.Dec.{eqb}
 use Rattle.fields.specs.Largest.{within}
 use Rattle.machine.specs.declared.Features.{Features}
 use Rattle.machine.specs.declared.Execution.{Execution}
+use Rattle.machine.specs.declared.Pmcr.{Pmcr}
 use Rattle.machine.specs.declared.Pmuserenr.{Pmuserenr}
 use Rattle.machine.specs.declared.Hcr.{Hcr}
 use Rattle.machine.specs.declared.Mdcr2.{Mdcr2}
@@ -71,9 +72,14 @@ storePmuserenr f v s =
 abbrev pub storeHcr : ℕ → ℕ → Hcr → Hcr
 storeHcr f v s = record { e2h = flag 0x24 f v (s .e2h); tge = flag 0x25 f v (s .tge) }
 
--- MODEL F6: fields 26 and 27
+-- MODEL F6: fields 26, 27 and 36
 unfoldable pub storeMdcr2 : ℕ → ℕ → Mdcr2 → Mdcr2
-storeMdcr2 f v s = record { tpm = flag 0x26 f v (s .tpm); hpmn = number 0x27 f v (s .hpmn) }
+storeMdcr2 f v s =
+    record {
+      tpm = flag 0x26 f v (s .tpm);
+      hlp = flag 0x36 f v (s .hlp);
+      hpmn = number 0x27 f v (s .hpmn);
+    }
 
 -- MODEL F7: fields 28 and 29
 abbrev pub storeMdcr3 : ℕ → ℕ → Mdcr3 → Mdcr3
@@ -100,6 +106,10 @@ storeHdfgwtr f v s =
 unfoldable pub storePmuacr : ℕ → ℕ → Pmuacr → Pmuacr
 storePmuacr f v s = record { p = number 0x32 f v (s .p); f0 = flag 0x33 f v (s .f0) }
 
+-- MODEL F21: field 35
+abbrev pub storePmcr : ℕ → ℕ → Pmcr → Pmcr
+storePmcr f v s = record { lp = flag 0x35 f v (s .lp) }
+
 -- MODEL F13: fields 38 to 3C
 abbrev pub storeExternal : ℕ → ℕ → External → External
 storeExternal f v s =
@@ -111,12 +121,13 @@ storeExternal f v s =
       softwarelock = flag 0x3C f v (s .softwarelock);
     }
 
--- MODEL F2 to F13: fields 00 to 3C; the counter enables (MODEL F12) are field 34
+-- MODEL F2 to F13 and F21: fields 00 to 3C without the overflow flags; the counter enables (MODEL F12) are field 34
 unfoldable pub storeSettings : ℕ → ℕ → Settings → Settings
 storeSettings f v s =
     record {
       features = storeFeatures f v (s .features);
       execution = storeExecution f v (s .execution);
+      pmcr = storePmcr f v (s .pmcr);
       pmuserenr = storePmuserenr f v (s .pmuserenr);
       hcr = storeHcr f v (s .hcr);
       mdcr2 = storeMdcr2 f v (s .mdcr2);
@@ -133,7 +144,8 @@ storeSettings f v s =
 abbrev pub storeList : ℕ → ℕ → ℕ → List ℕ → List ℕ
 storeList first f v l = cond (within first (first + 30) f) (set l (f - first) v) l
 
--- MODEL F20: every field; event numbers are 40 to 5E, event counters 60 to 7E, the instruction counter (MODEL F16) 7F
+-- MODEL F20: every field; event numbers are 40 to 5E, event counters 60 to 7E, the instruction counter (MODEL F16) 7F, the
+-- overflow flags (MODEL F22) 37
 unfoldable pub store : ℕ → ℕ → Machine → Machine
 store f v m =
     record {
@@ -142,4 +154,5 @@ store f v m =
       events = storeList 0x40 f v (m .events);
       counters = storeList 0x60 f v (m .counters);
       instructions = number 0x7F f v (m .instructions);
+      ovs = number 0x37 f v (m .ovs);
     }

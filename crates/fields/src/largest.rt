@@ -14,10 +14,12 @@ pub fn largest(f: u8) -> u64
         | ((0x20 <= f) & (f <= 0x26))
         | ((0x28 <= f) & (f <= 0x31))
         | (f == 0x33)
+        | ((0x35 <= f) & (f <= 0x36))
         | ((0x38 <= f) & (f <= 0x3C));
     let count = (f == 0x0C) | (f == 0x27);
     let p_bits = f == 0x32;
     let enables = f == 0x34;
+    let overflow_flags = f == 0x37;
     let event = (0x40 <= f) & (f <= 0x5E);
     let counter = (0x60 <= f) & (f <= 0x7F);
     if flag {
@@ -31,6 +33,9 @@ pub fn largest(f: u8) -> u64
     }
     if enables {
         return 0x1FFFFFFFF;
+    }
+    if overflow_flags {
+        return 0x17FFFFFFF;
     }
     if event {
         return 0xFFFF;

@@ -8,7 +8,8 @@ use answer::Refusal;
 use machine::Machine;
 use machine::Outcome;
 
-// The set command: v to the field with number f. Refused with 3 where there is none, with 4 where v exceeds its largest value.
+// The set command: v to the field with number f. Refused with 3 where there is none, with 4 where v exceeds its largest value;
+// of the overflow flags, bit 31 counts as above it.
 pub fn set(f: u8, v: u64, m: Machine) -> Outcome
     ensures { λ r. ⌜ r ≡ set f v m ⌝ }
 {
@@ -19,7 +20,7 @@ pub fn set(f: u8, v: u64, m: Machine) -> Outcome
             machine: m,
         };
     }
-    if most < v {
+    if ((f == 0x37) & ((v >> 31) % 2 == 1)) | (most < v) {
         return Outcome {
             answer: Answer::Refused(Refusal::ValueTooLarge),
             machine: m,
@@ -34,6 +35,7 @@ pub fn set(f: u8, v: u64, m: Machine) -> Outcome
         events: store::events(events, f, v),
         counters: store::counters(counters, f, v),
         instructions: store::pick(f == 0x7F, v, m.instructions),
+        ovs: store::pick(f == 0x37, v, m.ovs),
     };
     Outcome {
         answer: Answer::Ok,

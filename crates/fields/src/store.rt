@@ -2,8 +2,8 @@
 // the value and every other one stays. Nothing is tested here (set.rt).
 ghost use mathlib.Core.Path.{_≡_};
 ghost use mathlib.Core.Bool.{cond};
-ghost use Rattle.fields.specs.Store.{storeFeatures, storeExecution, storePmuserenr, storeHcr, storeMdcr2, storeMdcr3};
-ghost use Rattle.fields.specs.Store.{storeScr, storeHdfgrtr, storeHdfgwtr, storePmuacr, storeExternal};
+ghost use Rattle.fields.specs.Store.{storeFeatures, storeExecution, storePmcr, storePmuserenr, storeHcr, storeMdcr2};
+ghost use Rattle.fields.specs.Store.{storeMdcr3, storeScr, storeHdfgrtr, storeHdfgwtr, storePmuacr, storeExternal};
 ghost use Rattle.fields.specs.Store.{storeSettings, storeList};
 ghost use Prim.Native.Nat.{_%_};
 use machine::Execution;
@@ -14,6 +14,7 @@ use machine::Hdfgrtr;
 use machine::Hdfgwtr;
 use machine::Mdcr2;
 use machine::Mdcr3;
+use machine::Pmcr;
 use machine::Pmuacr;
 use machine::Pmuserenr;
 use machine::Scr;
@@ -59,6 +60,15 @@ fn execution(s: Execution, f: u8, v: u64) -> Execution
     }
 }
 
+fn pmcr(s: Pmcr, f: u8, v: u64) -> Pmcr
+    ensures { λ r. ⌜ r ≡ storePmcr f v s ⌝ }
+{
+    let on = v == 1;
+    Pmcr {
+        lp: ((f == 0x35) & on) | ((f != 0x35) & s.lp),
+    }
+}
+
 fn pmuserenr(s: Pmuserenr, f: u8, v: u64) -> Pmuserenr
     ensures { λ r. ⌜ r ≡ storePmuserenr f v s ⌝ }
 {
@@ -89,6 +99,7 @@ fn mdcr2(s: Mdcr2, f: u8, v: u64) -> Mdcr2
     let hpmn = pick(f == 0x27, v, s.hpmn);
     Mdcr2 {
         tpm: ((f == 0x26) & on) | ((f != 0x26) & s.tpm),
+        hlp: ((f == 0x36) & on) | ((f != 0x36) & s.hlp),
         hpmn: hpmn,
     }
 }
@@ -163,6 +174,7 @@ pub fn settings(s: Settings, f: u8, v: u64) -> Settings
 {
     let features0 = s.features;
     let execution0 = s.execution;
+    let pmcr0 = s.pmcr;
     let pmuserenr0 = s.pmuserenr;
     let hcr0 = s.hcr;
     let mdcr20 = s.mdcr2;
@@ -175,6 +187,7 @@ pub fn settings(s: Settings, f: u8, v: u64) -> Settings
     Settings {
         features: features(features0, f, v),
         execution: execution(execution0, f, v),
+        pmcr: pmcr(pmcr0, f, v),
         pmuserenr: pmuserenr(pmuserenr0, f, v),
         hcr: hcr(hcr0, f, v),
         mdcr2: mdcr2(mdcr20, f, v),

@@ -26,15 +26,16 @@ freshFeatures =
       n = 0;
     }
 
--- MODEL F2 to F13 and F18: the settings of the fresh record
+-- MODEL F2 to F13, F18 and F21: the settings of the fresh record
 abbrev pub freshSettings : Settings
 freshSettings =
     record {
       features = freshFeatures;
       execution = record { el2enabled = false; halted = false; sdd = false };
+      pmcr = record { lp = false };
       pmuserenr = record { en = false; sw = false; er = false; uen = false; ir = false };
       hcr = record { e2h = false; tge = false };
-      mdcr2 = record { tpm = false; hpmn = 0 };
+      mdcr2 = record { tpm = false; hlp = false; hpmn = 0 };
       mdcr3 = record { tpm = false; enpm2 = false };
       scr = record { fgten = false; fgten2 = false };
       hdfgrtr = record { pmevcntrn = false; npmicntr = false };
@@ -53,11 +54,12 @@ fresh =
       events = replicate 31 0;
       counters = replicate 31 0;
       instructions = 0;
+      ovs = 0;
     }
 
 -- MODEL F1: the record with these parts
-abbrev pub machineOf : ℕ → Settings → List ℕ → List ℕ → ℕ → Machine
-machineOf l s e c i = record { level = l; settings = s; events = e; counters = c; instructions = i }
+abbrev pub machineOf : ℕ → Settings → List ℕ → List ℕ → ℕ → ℕ → Machine
+machineOf l s e c i o = record { level = l; settings = s; events = e; counters = c; instructions = i; ovs = o }
 
 -- MODEL F17 and F20: the record with its level put to l
 abbrev pub withLevel : ℕ → Machine → Machine
@@ -68,6 +70,7 @@ withLevel l m =
       events = m .events;
       counters = m .counters;
       instructions = m .instructions;
+      ovs = m .ovs;
     }
 
 -- MODEL F15: the record with these event counters
@@ -79,6 +82,7 @@ withCounters c m =
       events = m .events;
       counters = c;
       instructions = m .instructions;
+      ovs = m .ovs;
     }
 
 -- MODEL F16: the record with this instruction counter
@@ -90,4 +94,17 @@ withInstructions i m =
       events = m .events;
       counters = m .counters;
       instructions = i;
+      ovs = m .ovs;
+    }
+
+-- MODEL F22: the record with these overflow flags
+abbrev pub withOvs : ℕ → Machine → Machine
+withOvs o m =
+    record {
+      level = m .level;
+      settings = m .settings;
+      events = m .events;
+      counters = m .counters;
+      instructions = m .instructions;
+      ovs = o;
     }

@@ -13,6 +13,7 @@ pub fn fresh() -> Machine
         settings: Settings {
             features: crate::FRESH_FEATURES,
             execution: crate::FRESH_EXECUTION,
+            pmcr: crate::FRESH_PMCR,
             pmuserenr: crate::FRESH_PMUSERENR,
             hcr: crate::FRESH_HCR,
             mdcr2: crate::FRESH_MDCR2,
@@ -27,5 +28,6 @@ pub fn fresh() -> Machine
         events: [0u16; 31],
         counters: [0u64; 31],
         instructions: 0,
+        ovs: 0,
     }
 }

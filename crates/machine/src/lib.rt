@@ -79,14 +79,23 @@ pub const FRESH_HCR: Hcr = Hcr {
     tge: false,
 };
 
+// PMCR_EL0.
+pub struct Pmcr {
+    pub lp: bool,
+}
+
+pub const FRESH_PMCR: Pmcr = Pmcr { lp: false };
+
 // MDCR_EL2.
 pub struct Mdcr2 {
     pub tpm: bool,
+    pub hlp: bool,
     pub hpmn: u64,
 }
 
 pub const FRESH_MDCR2: Mdcr2 = Mdcr2 {
     tpm: false,
+    hlp: false,
     hpmn: 0,
 };
 
@@ -162,12 +171,13 @@ pub const FRESH_EXTERNAL: External = External {
     softwarelock: false,
 };
 
-// All that a decision about an access may look at, besides the level and refusal 15's test. `cnten` holds the counter enables
-// of PMCNTENSET_EL0. The groups of bools stand together, and the level behind the event numbers, so that little padding is
-// copied with a record.
+// All that a decision about an access may look at, besides the level, refusal 15's test, and that of refusal 10 on the overflow
+// flags. `cnten` holds the counter enables of PMCNTENSET_EL0. The groups of bools stand together, and the level behind the
+// event numbers, so that little padding is copied with a record.
 pub struct Settings {
     pub features: Features,
     pub execution: Execution,
+    pub pmcr: Pmcr,
     pub pmuserenr: Pmuserenr,
     pub hcr: Hcr,
     pub mdcr3: Mdcr3,
@@ -181,13 +191,14 @@ pub struct Settings {
 }
 
 // The machine record: the settings, the event number of each event counter, the exception level, the value of each event
-// counter, and PMICNTR_EL0.
+// counter, PMICNTR_EL0, and the overflow flags of PMOVSSET_EL0 and PMOVSCLR_EL0.
 pub struct Machine {
     pub settings: Settings,
     pub events: [u16; 31],
     pub level: u8,
     pub counters: [u64; 31],
     pub instructions: u64,
+    pub ovs: u64,
 }
 
 // What a command answers, and the record after it.

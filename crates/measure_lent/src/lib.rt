@@ -17,17 +17,20 @@ pub extern "C" fn measure_lent(sets: &[u64], list: &[u64], x: u64) -> u64
         let events = m.events;
         let settings = m.settings;
         let instructions = m.instructions;
+        let ovs = m.ovs;
         let said = access::lent(
             &mut m.counters,
             &events,
             settings,
             level,
             instructions,
+            ovs,
             (c % 0x100000000) as u32,
             x,
         );
         m.level = level;
         m.instructions = said.instructions;
+        m.ovs = said.ovs;
         let a = said.answer;
         sum = std::num::wrapping_add_u64(sum, measure::worth(a));
         i += 1;

@@ -1,7 +1,7 @@
 -- One decision on two records that are alike but for named counters, which the decision does not touch: the answers are equal,
 -- the records stay alike, and each keeps its named counters.
 use Prim.Native.Nat.{ℕ}
-use mathlib.Core.Bool.{Bool, true, false}
+use mathlib.Core.Bool.{Bool, true, false, and-false}
 use mathlib.Core.Path.{_≡_, refl, sym, _∙_, ap}
 use native.Mathlib.Omega.{arith}
 use borrow.Author.Tests.{eq-eqb, ltb-true, ltb-false}
@@ -9,12 +9,15 @@ use lib.Dec.{ltb}
 use lib.ListN.{getD, length, List·getD-eq-default}
 use Rattle.answer.specs.declared.Answer.{Answer}
 use Rattle.machine.specs.declared.Machine.{Machine}
+use Rattle.bits.specs.Bits.{bit}
+use Rattle.fields.specs.Largest.{exceeds}
 use Rattle.state.specs.State.{viewOf}
 use Rattle.rules.specs.declared.Decision.{Decision}
 use Rattle.rules.specs.declared.Decision.the-variants.{Says, Read, Write, Add}
 use Rattle.rules.specs.declared.Place.{Place}
 use Rattle.rules.specs.declared.Place.the-variants.{Counter, Instructions}
-use Rattle.rules.specs.Apply.{valueAt, apply}
+use Rattle.rules.specs.Overflow.{raised}
+use Rattle.rules.specs.Apply.{overflows, valueAt, apply}
 use Rattle.rules.specs.Isolation.{Named, SameExcept, Kept}
 use Rattle.rules.proofs.Applied.{
   level-stays,
@@ -26,6 +29,7 @@ use Rattle.rules.proofs.Applied.{
   wide-stays,
   effect,
 }
+use Rattle.rules.proofs.Flags.{raised-ext}
 use Rattle.rules.proofs.Touches.{samePlace, touches}
 
 -- a record with 31 counters that refusal 15 does not meet
@@ -60,6 +64,7 @@ view-alike a =
       level = a .same .level i;
       settings = a .same .settings i;
       wide = (a .sound₁ .narrow ∙ sym (a .sound₂ .narrow)) i;
+      ovslarge = exceeds (a .same .ovs i) 0x37;
     }
 
 -- a place that is not named, also past the 31 counters
@@ -91,8 +96,33 @@ module _ (x : Named) (r₁ r₂ : Machine) (a : Alike x r₁ r₂) where
   answers-alike (Write p y) h = refl
   answers-alike (Add mask) h = refl
 
-  pub stays-alike : (d : Decision) → Alike x (apply d r₁ .machine) (apply d r₂ .machine)
-  stays-alike d =
+  -- an increment carries alike in both: the counters that it adds to are equal
+  carried-alike :
+      (mask : ℕ) → Hides x (Add mask) → (m : ℕ)
+      → overflows (r₁ .settings) (r₁ .events) mask m (getD (r₁ .counters) m 0)
+      ≡ overflows (r₂ .settings) (r₂ .events) mask m (getD (r₂ .counters) m 0)
+  carried-alike mask h m =
+      (λ i. overflows (a .same .settings i) (a .same .events i) mask m (getD (r₁ .counters) m 0)) ∙ go (bit m mask) refl
+    where
+      go :
+          (b : Bool) → bit m mask ≡ b
+          → overflows (r₂ .settings) (r₂ .events) mask m (getD (r₁ .counters) m 0)
+          ≡ overflows (r₂ .settings) (r₂ .events) mask m (getD (r₂ .counters) m 0)
+      go true e =
+          ap (overflows (r₂ .settings) (r₂ .events) mask m)
+          (not-named a (Counter m) (unnamed (namedAt x (Counter m)) (h (Counter m)) e))
+      go false e = rw (e, and-false)
+
+  ovs-alike : (d : Decision) → Hides x d → apply d r₁ .machine .ovs ≡ apply d r₂ .machine .ovs
+  unfolding apply
+  ovs-alike (Says b) h = a .same .ovs
+  ovs-alike (Read p rt) h = a .same .ovs
+  ovs-alike (Write (Counter m) y) h = a .same .ovs
+  ovs-alike (Write Instructions y) h = a .same .ovs
+  ovs-alike (Add mask) h = ap (raised _) (a .same .ovs) ∙ raised-ext _ (r₂ .ovs) _ (λ m l. carried-alike mask h m)
+
+  pub stays-alike : (d : Decision) → Hides x d → Alike x (apply d r₁ .machine) (apply d r₂ .machine)
+  stays-alike d h =
       record {
         same =
             record {
@@ -111,6 +141,7 @@ module _ (x : Named) (r₁ r₂ : Machine) (a : Alike x r₁ r₂) where
                   ∙ (λ i.
                   effect (a .same .settings i .features .p5) (a .same .events i) d Instructions (a .same .instructions n i))
                   ∙ sym (value-after d r₂ Instructions tt);
+              ovs = ovs-alike d h;
             };
         sound₁ = sound-stays d (a .sound₁);
         sound₂ = sound-stays d (a .sound₂);

@@ -1,5 +1,5 @@
 -- What a decision leaves in a record: the level, settings and event numbers as they were, each place by a function of what it
--- held alone, and no counter wider than before.
+-- held alone, no counter wider than before, and the overflow flags within their field.
 use Prim.Native.Nat.{ℕ, _+_, _%_, _^_, _<_}
 use mathlib.Core.Bool.{Bool, true, false, cond, not, _&&_}
 use mathlib.Core.List.{List}
@@ -8,22 +8,26 @@ use native.Mathlib.Nat.{mod-lt}
 use borrow.Author.Tests.{lt-leb}
 use lib.Dec.{leb, lit<}
 use lib.ListN.{length, length-set}
+use Rattle.fields.specs.Largest.{exceeds}
 use Rattle.machine.specs.declared.Machine.{Machine}
-use Rattle.machine.specs.Machine.{withCounters, withInstructions}
+use Rattle.machine.specs.Machine.{withCounters, withInstructions, withOvs}
 use Rattle.state.specs.State.{anyWide, viewOf}
 use Rattle.rules.specs.declared.Decision.{Decision}
 use Rattle.rules.specs.declared.Decision.the-variants.{Says, Read, Write, Add}
 use Rattle.rules.specs.declared.Place.{Place}
 use Rattle.rules.specs.declared.Place.the-variants.{Counter, Instructions}
-use Rattle.rules.specs.Apply.{width, plusOne, added, incremented, valueAt, apply}
+use Rattle.rules.specs.Overflow.{width, plusOne}
+use Rattle.rules.specs.Apply.{added, incremented, valueAt, apply}
+use Rattle.rules.proofs.Flags.{raised-fits}
 use Rattle.rules.proofs.Places.{getD-set, length-mapFrom, getD-mapFrom, narrow-set, narrow-mapFrom}
 use Rattle.rules.proofs.Touches.{samePlace, touches}
 
--- the record afterwards: counters and instruction counter may be new, the rest is as it was
+-- the record afterwards: counters, instruction counter and overflow flags may be new, the rest is as it was
 pub rest-stays :
     (d : Decision) (r : Machine)
     → apply d r .machine
-    ≡ withCounters (apply d r .machine .counters) (withInstructions (apply d r .machine .instructions) r)
+    ≡ withCounters (apply d r .machine .counters)
+    (withInstructions (apply d r .machine .instructions) (withOvs (apply d r .machine .ovs) r))
 unfolding apply
 rest-stays (Says a) r = refl
 rest-stays (Read p rt) r = refl
@@ -132,3 +136,12 @@ wide-stays d r n =
     rw (settings-stay d r)
     (narrow-unless (r .settings .features .p5) (anyWide (r .counters)) (anyWide (apply d r .machine .counters)) n
     (narrow-stays d r))
+
+-- the overflow flags stay within their field
+pub ovs-stay-within : (d : Decision) (r : Machine) → exceeds (r .ovs) 0x37 ≡ false → exceeds (apply d r .machine .ovs) 0x37 ≡ false
+unfolding apply
+ovs-stay-within (Says a) r e = e
+ovs-stay-within (Read p rt) r e = e
+ovs-stay-within (Write (Counter m) x) r e = e
+ovs-stay-within (Write Instructions x) r e = e
+ovs-stay-within (Add mask) r e = raised-fits _ (r .ovs) e refl

@@ -42,6 +42,7 @@ at-level l a =
             events = a .same .events;
             counters = a .same .counters;
             instructions = a .same .instructions;
+            ovs = a .same .ovs;
           };
       sound₁ = record { sized = a .sound₁ .sized; narrow = a .sound₁ .narrow };
       sound₂ = record { sized = a .sound₂ .sized; narrow = a .sound₂ .narrow };
@@ -68,7 +69,7 @@ once-decided :
 once-decided {x} {r₁} {r₂} a d h =
     record {
       answer = answers-alike x r₁ r₂ a d h;
-      alike = stays-alike x r₁ r₂ a d;
+      alike = stays-alike x r₁ r₂ a d h;
       kept₁ = kept-by x d r₁ (a .sound₁) h;
       kept₂ = kept-by x d r₂ (a .sound₂) h;
     }

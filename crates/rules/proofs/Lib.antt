@@ -3,7 +3,8 @@ pub mod Worked
 pub mod Unchanged
 pub mod Decided
 pub mod Mask
-pub mod Enables
+pub mod Shown
+pub mod Flags
 pub mod Touches
 pub mod Places
 pub mod Sweep
@@ -12,4 +13,5 @@ pub mod Applied
 pub mod Hidden
 pub mod Alike
 pub mod Isolation
+pub mod OverflowClaims
 pub mod Witness

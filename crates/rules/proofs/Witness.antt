@@ -63,6 +63,7 @@ from-hpmn accesses l =
       events = refl;
       counters = others (fromHpmn (one .settings) .counter) refl;
       instructions = λ e. refl;
+      ovs = refl;
     })
 
 without-p :
@@ -76,6 +77,7 @@ without-p accesses l =
       events = refl;
       counters = others (withoutP (one .settings) .counter) refl;
       instructions = λ e. refl;
+      ovs = refl;
     })
 
 instructions :
@@ -90,4 +92,5 @@ instructions accesses l =
       events = refl;
       counters = λ m h e. refl;
       instructions = λ e. absurd (false≢true (sym e));
+      ovs = refl;
     })

@@ -1,7 +1,9 @@
 -- The worked examples hold: for each, the definitions give the answers and the record that it says. Computed.
+use Prim.Native.Nat.{ℕ}
 use mathlib.Core.Bool.{true, _&&_}
 use mathlib.Core.List.{List, map, _++_}
 use mathlib.Core.Path.{_≡_, refl}
+use Rattle.answer.specs.declared.Answer.{Answer}
 use Rattle.bits.specs.Bits.{fromBits}
 use Rattle.fields.specs.Largest.{largest}
 use Rattle.fields.specs.Set.{set, setAll}
@@ -20,9 +22,10 @@ use Rattle.rules.specs.Traps.{
   pmicntrStop,
 }
 use Rattle.rules.specs.Permitted.{placeAccess, addMask}
+use Rattle.rules.specs.Overflow.{raised, lowered}
 use Rattle.rules.specs.Apply.{incremented, apply}
 use Rattle.rules.specs.Step.{decideRegister, decide, step}
-use Rattle.rules.specs.External.{shownOf, enablesWritten, reach, effectOf, externalRead, externalWrite, tick}
+use Rattle.rules.specs.External.{shownOf, reach, effectOf, externalRead, externalWrite, tick}
 use Rattle.rules.specs.Example.{Example, perform, performAll, valid, allValid}
 use Rattle.rules.specs.Example.{usualSettings, usual, start, actual, expected}
 use Rattle.rules.specs.Worked.{worked, misreadings}
@@ -30,7 +33,8 @@ use Rattle.rules.specs.ExamplesTraps.{trapExamples}
 use Rattle.rules.specs.ExamplesIcntr.{icntrExamples}
 use Rattle.rules.specs.ExamplesPermitted.{permittedExamples}
 use Rattle.rules.specs.ExamplesExternal.{externalExamples}
-use Rattle.rules.specs.ExamplesState.{stateExamples}
+use Rattle.rules.specs.ExamplesOverflow.{overflowExamples}
+use Rattle.rules.specs.ExamplesState.{stateExamples, directOvs, directActual, directExpected}
 use Rattle.rules.specs.Further.{further}
 
 -- the examples of a list hold
@@ -43,9 +47,9 @@ unfolding
     largest set viewOf tooLarge refusals verdictOf store storeSettings storeFeatures storeMdcr2 storePmuacr
     named register syndrome decode written disabledTrap stopAtEl3 counterRules counterOrder icntrRules icntrOrder
     pmevcntrStop pmswincStop pmicntrStop placeAccess addMask decideRegister decide incremented apply step fromBits
-    shownOf enablesWritten reach effectOf externalRead externalWrite tick
+    shownOf raised lowered reach effectOf externalRead externalWrite tick
     perform performAll setAll usual start actual expected worked misreadings
-    trapExamples icntrExamples permittedExamples externalExamples stateExamples further
+    trapExamples icntrExamples permittedExamples externalExamples overflowExamples stateExamples further
 hold = (refl, refl, refl)
 
 -- MODEL P1 to P11
@@ -60,9 +64,17 @@ misreadings-hold = hold .1
 pub further-hold : Hold further
 further-hold = hold .2
 
+-- MODEL R10: overflow flags that no set command stores
+pub direct-hold : map (λ (row : ℕ × Answer). directActual (row .0)) directOvs ≡ map directExpected directOvs
+unfolding
+    largest set viewOf tooLarge refusals verdictOf store storeSettings storeFeatures storeMdcr2 storePmuacr
+    named register syndrome decode written counterRules counterOrder pmevcntrStop placeAccess decideRegister decide apply step
+    perform setAll usual directOvs directActual directExpected
+direct-hold = refl
+
 -- every set command of the examples, and of what they start from, is one that is not refused
 pub settings-valid : valid usualSettings && allValid (worked ++ misreadings ++ further) ≡ true
 unfolding
     largest valid allValid worked misreadings
-    trapExamples icntrExamples permittedExamples externalExamples stateExamples further
+    trapExamples icntrExamples permittedExamples externalExamples overflowExamples stateExamples further
 settings-valid = refl

@@ -1,27 +1,21 @@
 -- What a decision does to the record. It says all that is to happen: nothing here looks at who asked.
-use Prim.Native.Nat.{ℕ, suc, _+_, _%_, _^_}
+use Prim.Native.Nat.{ℕ, suc, _%_, _^_}
 use mathlib.Core.Bool.{Bool, cond, _&&_}
 use mathlib.Core.List.{List, [], _∷_}
-use lib.Dec.{eqb}
+use lib.Dec.{eqb, ltb}
 use lib.ListN.{getD, set}
 use Rattle.answer.specs.declared.Answer.{Answer}
 use Rattle.bits.specs.Bits.{bit}
 use Rattle.machine.specs.declared.Machine.{Machine}
 use Rattle.machine.specs.declared.Outcome.{Outcome}
-use Rattle.machine.specs.Machine.{withCounters, withInstructions}
+use Rattle.machine.specs.declared.Settings.{Settings}
+use Rattle.machine.specs.Machine.{withCounters, withInstructions, withOvs}
 use Rattle.machine.specs.Outcome.{says, done}
 use Rattle.rules.specs.declared.Decision.{Decision}
 use Rattle.rules.specs.declared.Decision.the-variants.{Says, Read, Write, Add}
 use Rattle.rules.specs.declared.Place.{Place}
 use Rattle.rules.specs.declared.Place.the-variants.{Counter, Instructions}
-
--- MODEL G1: the bits of an event counter
-abbrev pub width : Bool → ℕ
-width p5 = cond p5 64 32
-
--- MODEL G10 and K2: one more, in a width of k bits
-abbrev pub plusOne : ℕ → ℕ → ℕ
-plusOne k y = (y + 1) % 2 ^ k
+use Rattle.rules.specs.Overflow.{width, plusOne, carries, overflowWidth, raised}
 
 -- MODEL G8: f at each place of a list, from place i on
 abbrev pub mapFrom : (ℕ → ℕ → ℕ) → ℕ → List ℕ → List ℕ
@@ -36,6 +30,18 @@ added events mask m = bit m mask && eqb (getD events m 0) 0
 -- MODEL G8 and G10: what counter m then holds
 unfoldable pub incremented : Bool → List ℕ → ℕ → ℕ → ℕ → ℕ
 incremented p5 events mask m y = cond (added events mask m) (plusOne (width p5) y) y
+
+-- MODEL G11: event counter m, from 0 to 30, holds y, takes an increment and overflows
+abbrev pub overflows : Settings → List ℕ → ℕ → ℕ → ℕ → Bool
+overflows s events mask m y = ltb m 31 && added events mask m && carries (overflowWidth s m) y
+
+-- MODEL G8 and G10: the event counters after an increment by a mask
+abbrev pub countersAfter : ℕ → Machine → List ℕ
+countersAfter mask r = mapFrom (incremented (r .settings .features .p5) (r .events) mask) 0 (r .counters)
+
+-- MODEL G11 and G13: the overflow flags after it, from what the counters held before
+abbrev pub ovsAfter : ℕ → Machine → ℕ
+ovsAfter mask r = raised (λ m. overflows (r .settings) (r .events) mask m (getD (r .counters) m 0)) (r .ovs)
 
 -- MODEL G2: what a place holds
 abbrev pub valueAt : Place → Machine → ℕ
@@ -52,5 +58,4 @@ unfoldable pub apply : Decision → Machine → Outcome
 apply (Says a) r = says a r
 apply (Read place rt) r = says (Answer.Mrs (valueAt place r) rt) r
 apply (Write place x) r = done (withValue place x r)
-apply (Add mask) r =
-    done (withCounters (mapFrom (incremented (r .settings .features .p5) (r .events) mask) 0 (r .counters)) r)
+apply (Add mask) r = done (withOvs (ovsAfter mask r) (withCounters (countersAfter mask r) r))

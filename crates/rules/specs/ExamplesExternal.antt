@@ -9,7 +9,7 @@ use Rattle.rules.specs.Example.Action.{read, write, ticks}
 unfoldable pub externalExamples : List Example
 externalExamples =
     -- MODEL E1: other offsets, before the locks
-    shows ((0x39, 1) ∷ []) 0 (read 0xC04 ∷ write 0xC80 1 ∷ []) (Answer.Other ∷ Answer.Other ∷ []) []
+    shows ((0x39, 1) ∷ []) 0 (read 0xC04 ∷ write 0xC84 1 ∷ []) (Answer.Other ∷ Answer.Other ∷ []) []
     -- MODEL E2: neither EXT32 nor EXT64, before the locks
     ∷ shows ((0x08, 0) ∷ (0x39, 1) ∷ (0x34, 1) ∷ []) 0 (read 0xC00 ∷ write 0xC00 2 ∷ []) (Answer.Value 0 ∷ Answer.Ok ∷ []) []
     -- MODEL E3: each reason for an error, before the software lock
@@ -37,7 +37,10 @@ externalExamples =
     (Answer.Ok ∷ Answer.Ok ∷ [])
     ((0x7F, 6) ∷ [])
     ∷ answers ((0x34, 0x100000000) ∷ (0x7F, 5) ∷ []) 0 (ticks false) Answer.Ok
-    -- MODEL K2: at 32 bits it goes on, at 64 it wraps
+    -- MODEL K2, K3: at 32 bits it goes on, at 64 it wraps, and its flag is set
     ∷ changes ((0x03, 1) ∷ (0x34, 0x100000000) ∷ (0x7F, 0xFFFFFFFF) ∷ []) 0 (ticks false) ((0x7F, 0x100000000) ∷ [])
-    ∷ changes ((0x03, 1) ∷ (0x34, 0x100000000) ∷ (0x7F, 0xFFFFFFFFFFFFFFFF) ∷ []) 0 (ticks false) ((0x7F, 0) ∷ [])
+    ∷ changes ((0x03, 1) ∷ (0x34, 0x100000000) ∷ (0x7F, 0xFFFFFFFFFFFFFFFF) ∷ [])
+    0
+    (ticks false)
+    ((0x7F, 0) ∷ (0x37, 0x100000000) ∷ [])
     ∷ []

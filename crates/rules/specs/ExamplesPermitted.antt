@@ -38,5 +38,5 @@ permittedExamples =
     ∷ answers [] 2 (swinc 0xFFFFFFFF80000000) Answer.Ok
     ∷ changes [] 0 (swinc 0x18) ((0x63, 1) ∷ [])
     -- MODEL G10: at 64 bits
-    ∷ changes ((0x60, 0xFFFFFFFFFFFFFFFF) ∷ []) 1 (swinc 1) ((0x60, 0) ∷ [])
+    ∷ changes ((0x60, 0xFFFFFFFFFFFFFFFF) ∷ []) 1 (swinc 1) ((0x60, 0) ∷ (0x37, 1) ∷ [])
     ∷ []

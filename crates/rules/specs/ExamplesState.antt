@@ -1,11 +1,16 @@
 -- Examples of the state refusals, as data.
+use Prim.Native.Nat.{ℕ}
 use mathlib.Core.Bool.{false}
 use mathlib.Core.List.{List, [], _∷_}
 use Rattle.answer.specs.declared.Answer.{Answer}
 use Rattle.answer.specs.declared.Level.the-variants.{El2}
 use Rattle.answer.specs.declared.Refusal.the-variants.{FieldTooLarge, LevelUnavailable, El2Unimplemented, HpmnAboveN, HpmnZero}
 use Rattle.answer.specs.declared.Refusal.the-variants.{CounterTooWide, TgeAtEl1, FeatureMissing}
-use Rattle.rules.specs.Example.{Example, answers, trap, gives, swinc, mrs3, msr3}
+use Rattle.machine.specs.declared.Outcome.{Outcome}
+use Rattle.machine.specs.Machine.{withLevel, withOvs}
+use Rattle.machine.specs.Outcome.{says}
+use Rattle.fields.specs.Set.{set}
+use Rattle.rules.specs.Example.{Example, perform, usual, answers, trap, gives, swinc, mrs3, msr3}
 use Rattle.rules.specs.Example.Action.{access, read, write, ticks}
 
 -- MODEL P12 and V3: for R10 to R17
@@ -40,3 +45,21 @@ stateExamples =
     ∷ answers ((0x27, 7) ∷ []) 3 mrs3 (Answer.Refused LevelUnavailable)
     ∷ answers ((0x27, 7) ∷ (0x25, 1) ∷ []) 1 mrs3 (Answer.Refused HpmnAboveN)
     ∷ []
+
+-- MODEL R10 and F22: overflow flags that only a direct caller's record can have, beside the largest that a set command stores,
+-- and what MRS of counter 3, which holds 9, then answers
+unfoldable pub directOvs : List (ℕ × Answer)
+directOvs =
+    (0x17FFFFFFF, gives 9)
+    ∷ (0x80000000, Answer.Refused FieldTooLarge)
+    ∷ (0x180000000, Answer.Refused FieldTooLarge)
+    ∷ (0x200000000, Answer.Refused FieldTooLarge)
+    ∷ []
+
+-- MODEL R0 and R10: what the definitions give for these flags, with the record afterwards
+unfoldable pub directActual : ℕ → Outcome
+directActual ovs = perform mrs3 (withOvs ovs (withLevel 1 (set 0x63 9 usual .machine)))
+
+-- MODEL R0: what the table says, the record as it was
+unfoldable pub directExpected : ℕ × Answer → Outcome
+directExpected row = says (row .1) (withOvs (row .0) (withLevel 1 (set 0x63 9 usual .machine)))

@@ -12,18 +12,18 @@ use Rattle.state.specs.declared.View.{View}
 use Rattle.state.specs.declared.Verdict.{Verdict}
 use Rattle.state.specs.declared.Verdict.the-variants.{Consistent, Refused}
 use Rattle.machine.specs.First.{first}
-use Rattle.machine.specs.Machine.{withInstructions}
+use Rattle.machine.specs.Machine.{withInstructions, withOvs}
 use Rattle.machine.specs.Outcome.{says, done}
 use Rattle.fields.specs.Store.{store}
 use Rattle.state.specs.State.{viewOf, verdictOf}
 use Rattle.rules.specs.declared.external.Request.{Request}
 use Rattle.rules.specs.declared.external.Request.the-variants.{Read, Write, Tick}
 use Rattle.rules.specs.declared.external.Effect.{Effect}
-use Rattle.rules.specs.declared.external.Effect.the-variants.{Says, Enables, Count}
+use Rattle.rules.specs.declared.external.Effect.the-variants.{Says, Enables, ReadOvs, ClearOvs, SetOvs, Count}
 use Rattle.rules.specs.declared.external.Reach.{Reach}
-use Rattle.rules.specs.declared.external.Reach.the-variants.{Other, Ignored, Error, Pmcntenset}
+use Rattle.rules.specs.declared.external.Reach.the-variants.{Other, Ignored, Error, Pmcntenset, Pmovsclr, Pmovsset}
 use Rattle.bits.specs.Bits.{bit, fromBits}
-use Rattle.rules.specs.Apply.{plusOne}
+use Rattle.rules.specs.Overflow.{plusOne, carries, flagBits, raised, lowered}
 
 -- MODEL E2: the external interface is there
 abbrev pub present : Settings → Bool
@@ -34,26 +34,30 @@ abbrev pub unreachable : Settings → Bool
 unreachable s =
     s .external .doublelock || not (s .external .powered) || s .external .oslock || not (s .external .allowed)
 
--- MODEL E5: the width of the register
+-- MODEL E5: the width of the registers
 abbrev pub externalWidth : Settings → ℕ
 externalWidth s = cond (s .features .ext64 || s .features .p9 || s .features .icntr) 64 32
 
--- MODEL E6: bit m is in reach
-abbrev pub shown : Settings → ℕ → Bool
-shown s m =
-    ((ltb m 31 && ltb m (s .features .n)) || eqb m 31 || (eqb m 32 && s .features .icntr)) && ltb m (externalWidth s)
+-- MODEL E6: bit m is in reach, of a register that has or has not the cycle counter's bit, 31
+abbrev pub shown : Bool → Settings → ℕ → Bool
+shown cycles s m =
+    ((ltb m 31 && ltb m (s .features .n)) || (eqb m 31 && cycles) || (eqb m 32 && s .features .icntr)) && ltb m (externalWidth s)
 
 -- MODEL E6: the bits of x that are in reach
-unfoldable pub shownOf : Settings → ℕ → ℕ
-shownOf s x = fromBits 33 (λ m. shown s m && bit m x)
+unfoldable pub shownOf : Bool → Settings → ℕ → ℕ
+shownOf cycles s x = fromBits flagBits (λ m. shown cycles s m && bit m x)
 
--- MODEL E7: what a read shows of the counter enables
-abbrev pub enablesRead : Settings → ℕ
-enablesRead s = shownOf s (s .cnten)
+-- MODEL E6: those of PMCNTENSET_EL0, which has bit 31
+abbrev pub enablesShown : Settings → ℕ → ℕ
+enablesShown s x = shownOf true s x
+
+-- MODEL E6: those of PMOVSCLR_EL0 and PMOVSSET_EL0, which have not
+abbrev pub ovsShown : Settings → ℕ → ℕ
+ovsShown s x = shownOf false s x
 
 -- MODEL E8: the counter enables after a write of x
-unfoldable pub enablesWritten : Settings → ℕ → ℕ
-enablesWritten s x = fromBits 33 (λ m. bit m (s .cnten) || (shown s m && bit m x))
+abbrev pub enablesWritten : Settings → ℕ → ℕ
+enablesWritten s x = raised (λ m. bit m (enablesShown s x)) (s .cnten)
 
 -- MODEL E2, E3 and E4: what keeps an access from the register at its offset, the same for every register
 abbrev pub obstacles : Bool → Settings → List (Bool × Reach)
@@ -63,31 +67,43 @@ obstacles writes s =
     ∷ (writes && s .external .softwarelock, Ignored)
     ∷ []
 
--- MODEL E1: how far an access at an offset gets: a row for each offset that has a register
+-- MODEL E1: the offsets that have a register, and how far an access gets there
+abbrev pub offsets : Bool → ℕ → Settings → List (Bool × Reach)
+offsets writes offset s =
+    (eqb offset 0xC00, first (obstacles writes s) Pmcntenset)
+    ∷ (eqb offset 0xC80, first (obstacles writes s) Pmovsclr)
+    ∷ (eqb offset 0xCC0, first (obstacles writes s) Pmovsset)
+    ∷ []
+
+-- MODEL E1: how far an access at an offset gets
 unfoldable pub reach : Bool → ℕ → Settings → Reach
-reach writes offset s = first ((eqb offset 0xC00, first (obstacles writes s) Pmcntenset) ∷ []) Other
+reach writes offset s = first (offsets writes offset s) Other
 
--- MODEL E1, E2, E3 and E7: what a read answers that gets so far
-abbrev pub readOf : Reach → Settings → Answer
-readOf Other s = Answer.Other
-readOf Ignored s = Answer.Value 0
-readOf Error s = Answer.Error
-readOf Pmcntenset s = Answer.Value (enablesRead s)
+-- MODEL E1, E2, E3, E7 and E10: what a read does that gets so far
+abbrev pub readOf : Reach → Settings → Effect
+readOf Other s = Says Answer.Other
+readOf Ignored s = Says (Answer.Value 0)
+readOf Error s = Says Answer.Error
+readOf Pmcntenset s = Says (Answer.Value (enablesShown s (s .cnten)))
+readOf Pmovsclr s = ReadOvs
+readOf Pmovsset s = ReadOvs
 
--- MODEL E1 to E4 and E8: what a write of x does that gets so far
+-- MODEL E1 to E4, E8, E11 and E12: what a write of x does that gets so far
 abbrev pub writeOf : Reach → ℕ → Settings → Effect
 writeOf Other x s = Says Answer.Other
 writeOf Ignored x s = Says Answer.Ok
 writeOf Error x s = Says Answer.Error
 writeOf Pmcntenset x s = Enables (enablesWritten s x)
+writeOf Pmovsclr x s = ClearOvs (ovsShown s x)
+writeOf Pmovsset x s = SetOvs (ovsShown s x)
 
 -- MODEL K1: what a tick does
 abbrev pub tickOf : Bool → Settings → Effect
 tickOf prohibited s = cond (s .features .icntr && bit 32 (s .cnten) && not prohibited) Count (Says Answer.Ok)
 
--- MODEL E9: the effect of a request on a consistent record; no counter is looked at
+-- MODEL E9: the effect of a request on a consistent record; no counter and no overflow flag is looked at
 unfoldable pub effectOf : Request → Settings → Effect
-effectOf (Read offset) s = Says (readOf (reach false offset s) s)
+effectOf (Read offset) s = readOf (reach false offset s) s
 effectOf (Write offset x) s = writeOf (reach true offset s) x s
 effectOf (Tick prohibited) s = tickOf prohibited s
 
@@ -100,11 +116,19 @@ unlessRefusedBy (Refused n) e = Says (Answer.Refused n)
 abbrev pub judge : View → Request → Effect
 judge v q = unlessRefusedBy (verdictOf v) (effectOf q (v .settings))
 
--- MODEL E8, K1 and K2: what an effect answers and does to the record; the counter enables are field 34
+-- MODEL K3: the overflow flags after the instruction counter, which held y, went up
+abbrev pub ovsCounted : ℕ → ℕ → ℕ
+ovsCounted y ovs = raised (λ m. eqb m 32 && carries 64 y) ovs
+
+-- MODEL E8, E10, E11, E12 and K1 to K3: what an effect answers and does to the record; the counter enables are field 34
 abbrev pub enact : Effect → Machine → Outcome
 enact (Says a) r = says a r
 enact (Enables e) r = done (store 0x34 e r)
-enact Count r = done (withInstructions (plusOne 64 (r .instructions)) r)
+enact ReadOvs r = says (Answer.Value (ovsShown (r .settings) (r .ovs))) r
+enact (ClearOvs mask) r = done (withOvs (lowered (λ m. bit m mask) (r .ovs)) r)
+enact (SetOvs mask) r = done (withOvs (raised (λ m. bit m mask) (r .ovs)) r)
+enact Count r =
+    done (withOvs (ovsCounted (r .instructions) (r .ovs)) (withInstructions (plusOne 64 (r .instructions)) r))
 
 -- MODEL E7: the external read at an offset
 unfoldable pub externalRead : ℕ → Machine → Outcome

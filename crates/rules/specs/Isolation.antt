@@ -26,6 +26,7 @@ pub record SameExcept (x : Named) (r₁ r₂ : Machine) : Type 0 where
   pub events : r₁ .events ≡ r₂ .events
   pub counters : (m : ℕ) → m ≤ 30 → x .counter m ≡ false → getD (r₁ .counters) m 0 ≡ getD (r₂ .counters) m 0
   pub instructions : x .instructions ≡ false → r₁ .instructions ≡ r₂ .instructions
+  pub ovs : r₁ .ovs ≡ r₂ .ovs
 
 -- MODEL M6: each counter named holds what it held at the start
 pub record Kept (x : Named) (start after : Machine) : Type 0 where

@@ -3,6 +3,7 @@
 pub mod Word
 pub mod Traps
 pub mod Permitted
+pub mod Overflow
 pub mod Apply
 pub mod Step
 pub mod External
@@ -12,6 +13,8 @@ pub mod ExamplesTraps
 pub mod ExamplesIcntr
 pub mod ExamplesPermitted
 pub mod ExamplesExternal
+pub mod ExamplesOverflow
 pub mod ExamplesState
 pub mod Further
 pub mod Isolation
+pub mod OverflowClaims

@@ -26,8 +26,8 @@ worked =
     ∷ changes [] 1 (swinc 0x18) ((0x63, 1) ∷ [])
     ∷ changes [] 2 (swinc 0x18) ((0x63, 1) ∷ (0x64, 1) ∷ [])
     -- MODEL P7
-    ∷ changes ((0x60, 0xFFFFFFFF) ∷ []) 1 (swinc 1) ((0x60, 0x100000000) ∷ [])
-    ∷ changes ((0x01, 0) ∷ (0x02, 0) ∷ (0x60, 0xFFFFFFFF) ∷ []) 1 (swinc 1) ((0x60, 0) ∷ [])
+    ∷ changes ((0x60, 0xFFFFFFFF) ∷ []) 1 (swinc 1) ((0x60, 0x100000000) ∷ (0x37, 1) ∷ [])
+    ∷ changes ((0x01, 0) ∷ (0x02, 0) ∷ (0x60, 0xFFFFFFFF) ∷ []) 1 (swinc 1) ((0x60, 0) ∷ (0x37, 1) ∷ [])
     -- MODEL P8
     ∷ answers ((0x20, 0) ∷ []) 0 (access 0xD51B9C81 0) (trap El1 0x6238E438)
     ∷ answers ((0x20, 0) ∷ (0x25, 1) ∷ []) 0 (access 0xD51B9C81 0) (trap El2 0x6238E438)

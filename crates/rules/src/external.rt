@@ -15,12 +15,18 @@ pub enum Reach {
     Ignored,
     Error,
     Pmcntenset,
+    Pmovsclr,
+    Pmovsset,
 }
 
-// What a request is to do. `Says` answers and changes nothing; the others answer `ok` and put the counter enables, or count
-// one instruction.
+// What a request is to do. `Says` answers and changes nothing; `ReadOvs` answers the overflow flags in reach; the others answer
+// `ok` and put the counter enables, clear or set overflow flags by a mask, in which the bits out of reach are 0, or count one
+// instruction.
 pub enum Effect {
     Says(Answer),
     Enables(u64),
+    ReadOvs,
+    ClearOvs { mask: u64 },
+    SetOvs { mask: u64 },
     Count,
 }

@@ -3,13 +3,21 @@ use Prim.Native.Nat.{ℕ}
 use mathlib.Core.Bool.{Bool, true, false, _||_, or-false}
 use mathlib.Core.Path.{_≡_, refl, _∙_}
 use lib.Dec.{ltb}
-use Rattle.fields.specs.Largest.{largestLevel}
-use Rattle.machine.proofs.Bools.{or-left}
+use Rattle.fields.specs.Largest.{exceeds, largestLevel}
+use Rattle.machine.proofs.Bools.{or-left, or-right}
 use Rattle.machine.proofs.First.{testAt, all-fell}
 use Rattle.state.specs.declared.Verdict.{Verdict}
 use Rattle.state.specs.declared.Verdict.the-variants.{Consistent, Refused}
 use Rattle.state.specs.declared.View.{View}
-use Rattle.state.specs.State.{exceeds, tooLarge, refusals, verdictOf}
+use Rattle.state.specs.State.{tooLarge, refusals, verdictOf}
+
+-- refusal 10's tests but that of the overflow flags and that of the level
+abbrev pub numbersLarge : View → Bool
+numbersLarge v =
+    exceeds (v .settings .features .n) 0x0C
+    || exceeds (v .settings .mdcr2 .hpmn) 0x27
+    || exceeds (v .settings .pmuacr .p) 0x32
+    || exceeds (v .settings .cnten) 0x34
 
 isConsistent : Verdict → Bool
 isConsistent Consistent = true
@@ -26,19 +34,22 @@ module _ (v : View) (e : verdictOf v ≡ Consistent) where
   unfolding refusals
   not-wide = passed 5
 
+  -- and refusal 10's, the overflow flags' test among its own
+  pub ovs-fits : v .ovslarge ≡ false
+  unfolding refusals tooLarge
+  ovs-fits =
+      or-right (numbersLarge v) (v .ovslarge)
+      (or-left (numbersLarge v || v .ovslarge) (ltb largestLevel (v .level)) (passed 0))
+
 -- the view with its level put to 0
 abbrev pub levelledTo0 : View → View
-levelledTo0 v = record { level = 0; settings = v .settings; wide = v .wide }
+levelledTo0 v = record { level = 0; settings = v .settings; wide = v .wide; ovslarge = v .ovslarge }
 
 large-at-0 : (v : View) → tooLarge v ≡ false → tooLarge (levelledTo0 v) ≡ false
 unfolding tooLarge
 large-at-0 v e =
-    let numbers =
-    exceeds (v .settings .features .n) 0x0C
-    || exceeds (v .settings .mdcr2 .hpmn) 0x27
-    || exceeds (v .settings .pmuacr .p) 0x32
-    || exceeds (v .settings .cnten) 0x34 in
-    or-false numbers ∙ or-left numbers (ltb largestLevel (v .level)) e
+    let fields = numbersLarge v || v .ovslarge in
+    or-false fields ∙ or-left fields (ltb largestLevel (v .level)) e
 
 -- a record that is consistent at some level is so at level 0: the tests of rows 0, 2, 3, 4, 5 and 7 do not look at the
 -- level, or ask for one above

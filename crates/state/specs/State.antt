@@ -19,27 +19,30 @@ use Rattle.machine.specs.First.{first}
 use Rattle.state.specs.declared.View.{View}
 use Rattle.state.specs.declared.Verdict.{Verdict}
 use Rattle.state.specs.declared.Verdict.the-variants.{Consistent, Refused}
-use Rattle.fields.specs.Largest.{largest, largestLevel}
+use Rattle.fields.specs.Largest.{largest, exceeds, largestLevel}
 
 -- MODEL R15: some counter is 2^32 or more
 abbrev pub anyWide : List ℕ → Bool
 anyWide [] = false
 anyWide (x ∷ xs) = leb (2 ^ 32) x || anyWide xs
 
--- MODEL V5: what a decision may look at: the level, the settings and, of the counters, refusal 15's test alone
-abbrev pub viewAt : ℕ → Settings → List ℕ → View
-viewAt l s counters = record { level = l; settings = s; wide = not (s .features .p5) && anyWide counters }
+-- MODEL V5: what a decision may look at: the level, the settings and, of the counters, refusal 15's test alone, and of the
+-- overflow flags refusal 10's alone
+abbrev pub viewAt : ℕ → Settings → List ℕ → ℕ → View
+viewAt l s counters ovs =
+    record {
+      level = l;
+      settings = s;
+      wide = not (s .features .p5) && anyWide counters;
+      ovslarge = exceeds ovs 0x37;
+    }
 
 -- MODEL V5: of a record
 unfoldable pub viewOf : Machine → View
-viewOf m = viewAt (m .level) (m .settings) (m .counters)
+viewOf m = viewAt (m .level) (m .settings) (m .counters) (m .ovs)
 
--- MODEL R10: v is above the largest value of field f
-abbrev pub exceeds : ℕ → ℕ → Bool
-exceeds v f = ltb (largest f) v
-
--- MODEL R10: some field, or the level, is above its largest. A flag, an event number and a counter cannot be: their types end
--- there
+-- MODEL R10: some field, or the level, is above its largest. A field of one bit, an event number and a counter cannot be: their
+-- types end there
 unfoldable pub tooLarge : View → Bool
 unfolding largest
 tooLarge v =
@@ -47,6 +50,7 @@ tooLarge v =
     || exceeds (v .settings .mdcr2 .hpmn) 0x27
     || exceeds (v .settings .pmuacr .p) 0x32
     || exceeds (v .settings .cnten) 0x34
+    || v .ovslarge
     || ltb largestLevel (v .level)
 
 -- MODEL R11: level 3 without EL3, or level 2 while EL2 is not enabled

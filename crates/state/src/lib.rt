@@ -6,11 +6,13 @@ use fields::largest;
 use machine::Machine;
 use machine::Settings;
 
-// What a decision about an access may look at: of the counters, only refusal 15's test, `wide`.
+// What a decision about an access may look at: of the counters only refusal 15's test, `wide`, and of the overflow flags only
+// that of refusal 10, `ovslarge`.
 pub struct View {
     pub level: u8,
     pub settings: Settings,
     pub wide: bool,
+    pub ovslarge: bool,
 }
 
 // The state test: the record is consistent, or refused with the lowest number that applies.
@@ -32,6 +34,7 @@ pub fn verdict_of(v: View) -> Verdict
         | (31 < hpmn)
         | (0x7FFFFFFF < s.pmuacr.p)
         | (0x1FFFFFFFF < s.cnten)
+        | v.ovslarge
         | (largest::LEVEL < level);
     let level_unavailable = ((level == 3) & !has.el3) | ((level == 2) & !el2enabled);
     let el2_unimplemented = el2enabled & !has.el2;
@@ -80,20 +83,23 @@ fn any_wide(counters: &[u64]) -> bool
 }
 
 // What a decision may look at, of a record with these parts. The counters are read only where p5 is missing.
-pub fn view_at(level: u8, s: Settings, counters: &[u64]) -> View
-    ensures { λ v. ⌜ v ≡ viewAt level s (now (counters .entry)) ⌝ }
+pub fn view_at(level: u8, s: Settings, counters: &[u64], ovs: u64) -> View
+    ensures { λ v. ⌜ v ≡ viewAt level s (now (counters .entry)) ovs ⌝ }
 {
+    let ovslarge = ((ovs >> 31) % 2 == 1) | (0x17FFFFFFF < ovs);
     if s.features.p5 {
         return View {
             level: level,
             settings: s,
             wide: false,
+            ovslarge: ovslarge,
         };
     }
     View {
         level: level,
         settings: s,
         wide: any_wide(counters),
+        ovslarge: ovslarge,
     }
 }
 
@@ -102,5 +108,5 @@ pub fn view_of(m: Machine) -> View
     ensures { λ v. ⌜ v ≡ viewOf m ⌝ }
 {
     let settings = m.settings;
-    view_at(m.level, settings, &m.counters)
+    view_at(m.level, settings, &m.counters, m.ovs)
 }

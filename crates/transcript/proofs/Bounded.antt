@@ -1,30 +1,36 @@
 -- Records in which no number exceeds its largest: every command leaves such a record as one, and answers anything but refusal 10.
 use Prim.Native.Nat.{ℕ}
-use mathlib.Core.Bool.{Bool, true, false, cond, _||_}
+use mathlib.Core.Bool.{Bool, true, false, cond, _||_, _&&_}
 use mathlib.Core.Path.{_≡_, refl, sym}
 use native.Mathlib.Omega.{arith}
 use borrow.Author.Tests.{le-ltb, eqb-true}
 use lib.Dec.{ltb, eqb}
 use Rattle.answer.specs.declared.Answer.{Answer}
+use Rattle.bits.specs.Bits.{bit}
 use Rattle.command.proofs.Choice.{either}
-use Rattle.fields.specs.Largest.{largest, largestLevel}
+use Rattle.fields.specs.Largest.{largest, exceeds, largestLevel}
 use Rattle.fields.specs.Set.{set, setLevel}
 use Rattle.fields.specs.Store.{number, store, storeSettings, storeFeatures, storeMdcr2, storePmuacr}
 use Rattle.machine.specs.declared.Machine.{Machine}
 use Rattle.machine.specs.declared.Outcome.{Outcome}
-use Rattle.machine.specs.Machine.{withLevel}
+use Rattle.machine.specs.Machine.{withLevel, withOvs}
 use Rattle.machine.specs.Outcome.{says}
-use Rattle.rules.proofs.Applied.{settings-stay, level-stays}
-use Rattle.rules.proofs.Enables.{written-union}
+use Rattle.rules.proofs.Applied.{settings-stay, level-stays, ovs-stay-within}
+use Rattle.rules.proofs.Flags.{raised-lt, raised-fits, lowered-fits}
+use Rattle.rules.proofs.Shown.{shown-bit-31}
 use Rattle.rules.specs.declared.external.Effect.{Effect}
+use Rattle.rules.specs.declared.external.Effect.the-variants.{Count}
 use Rattle.rules.specs.declared.external.Reach.{Reach}
-use Rattle.rules.specs.declared.external.Reach.the-variants.{Other, Ignored, Error, Pmcntenset}
-use Rattle.rules.specs.External.{enablesWritten, unlessRefusedBy, readOf, writeOf, effectOf, enact}
+use Rattle.rules.specs.declared.external.Reach.the-variants.{Other, Ignored, Error, Pmcntenset, Pmovsclr, Pmovsset}
+use Rattle.rules.specs.Overflow.{carries}
+use Rattle.rules.specs.External.{enablesShown, enablesWritten, ovsCounted, unlessRefusedBy, readOf, writeOf, effectOf, enact}
 use Rattle.rules.specs.External.{externalRead, externalWrite, tick}
+use Rattle.rules.specs.Apply.{apply}
 use Rattle.rules.specs.Step.{decide, step}
 use Rattle.state.specs.declared.Verdict.{Verdict}
 use Rattle.state.specs.declared.Verdict.the-variants.{Consistent, Refused}
-use Rattle.state.specs.State.{exceeds, viewOf, tooLarge}
+use Rattle.state.proofs.Consistent.{numbersLarge}
+use Rattle.state.specs.State.{viewOf, tooLarge}
 use Rattle.transcript.proofs.Refusal10.{isRefusal10, Passes, verdict-passes, step-spares}
 
 -- an outcome that is not refusal 10, and whose record does not meet it
@@ -42,7 +48,7 @@ or-fails true a′ b b′ p q e = cc
 
 -- a number after a store: the value, at most the largest of its field, or what was there
 number-bounded :
-    (k f v old : ℕ) → ltb (largest f) v ≡ false → exceeds old k ≡ false → exceeds (number k f v old) k ≡ false
+    (k f v old : ℕ) → exceeds v f ≡ false → exceeds old k ≡ false → exceeds (number k f v old) k ≡ false
 number-bounded k f v old h o = go (eqb f k) refl
   where
     go : (b : Bool) → eqb f k ≡ b → exceeds (cond b v old) k ≡ false
@@ -50,9 +56,23 @@ number-bounded k f v old h o = go (eqb f k) refl
     go false e = o
 
 module _ (r : Machine) (b : tooLarge (viewOf r) ≡ false) where
-  store-bounded : (f v : ℕ) → ltb (largest f) v ≡ false → tooLarge (viewOf (store f v r)) ≡ false
+  numbers-bounded :
+      (f v : ℕ) → exceeds v f ≡ false → numbersLarge (viewOf r) ≡ false → numbersLarge (viewOf (store f v r)) ≡ false
+  unfolding viewOf largest store storeSettings storeFeatures storeMdcr2 storePmuacr
+  numbers-bounded f v h e = search (or-fails, number-bounded)
+
+  store-bounded : (f v : ℕ) → exceeds v f ≡ false → tooLarge (viewOf (store f v r)) ≡ false
   unfolding tooLarge viewOf largest store storeSettings storeFeatures storeMdcr2 storePmuacr
-  store-bounded f v h = search (or-fails, number-bounded)
+  store-bounded f v h =
+      let level = ltb largestLevel (r .level) in
+      let numbers = numbersLarge (viewOf r) in
+      let numbers′ = numbersLarge (viewOf (store f v r)) in
+      let ovs = exceeds (r .ovs) 0x37 in
+      let ovs′ = exceeds (number 0x37 f v (r .ovs)) 0x37 in
+      or-fails (numbers || ovs) (numbers′ || ovs′) level level
+      (or-fails numbers numbers′ ovs ovs′ (numbers-bounded f v h) (number-bounded 0x37 f v (r .ovs) h))
+      (λ e. e)
+      b
 
   with-level : (l : ℕ) → ltb largestLevel l ≡ false → tooLarge (viewOf (withLevel l r)) ≡ false
   unfolding tooLarge viewOf
@@ -63,7 +83,12 @@ module _ (r : Machine) (b : tooLarge (viewOf r) ≡ false) where
   unfolding largest
   enables-bounded x =
       let e = enablesWritten (r .settings) x in
-      store-bounded 0x34 e (le-ltb (largest 0x34) e (omega (arith, written-union (r .settings) x)))
+      store-bounded 0x34 e (le-ltb (largest 0x34) e (omega (arith, raised-lt (λ m. bit m (enablesShown (r .settings) x)) (r .settings .cnten))))
+
+  -- overflow flags that stay within their field
+  with-ovs : (o : ℕ) → (exceeds (r .ovs) 0x37 ≡ false → exceeds o 0x37 ≡ false) → tooLarge (viewOf (withOvs o r)) ≡ false
+  unfolding tooLarge viewOf
+  with-ovs o h = search or-fails
 
   pub set-bounded : (f v : ℕ) → Bounded (set f v r)
   unfolding set
@@ -76,9 +101,12 @@ module _ (r : Machine) (b : tooLarge (viewOf r) ≡ false) where
   pub step-bounded : (w x : ℕ) → Bounded (step w x r)
   unfolding step tooLarge viewOf
   step-bounded w x =
+      let d = decide (viewOf r) w x in
       record {
         answer = step-spares r w x b;
-        machine = rw (level-stays (decide (viewOf r) w x) r, settings-stay (decide (viewOf r) w x) r) b;
+        machine =
+            rw (level-stays d r, settings-stay d r)
+            (with-ovs (apply d r .machine .ovs) (ovs-stay-within d r));
       }
 
   refused-bounded :
@@ -87,21 +115,33 @@ module _ (r : Machine) (b : tooLarge (viewOf r) ≡ false) where
   refused-bounded Consistent e p q = q
   refused-bounded (Refused n) e p q = says-bounded (Answer.Refused n) r p b
 
-  read-spares : (t : Reach) → isRefusal10 (readOf t (r .settings)) ≡ false
-  read-spares Other = refl
-  read-spares Ignored = refl
-  read-spares Error = refl
-  read-spares Pmcntenset = refl
+  read-of-bounded : (t : Reach) → Bounded (enact (readOf t (r .settings)) r)
+  read-of-bounded Other = says-bounded _ r refl b
+  read-of-bounded Ignored = says-bounded _ r refl b
+  read-of-bounded Error = says-bounded _ r refl b
+  read-of-bounded Pmcntenset = says-bounded _ r refl b
+  read-of-bounded Pmovsclr = says-bounded _ r refl b
+  read-of-bounded Pmovsset = says-bounded _ r refl b
 
   pub read-bounded : (offset : ℕ) → Bounded (externalRead offset r)
   unfolding externalRead effectOf viewOf
-  read-bounded offset = search (refused-bounded, verdict-passes, says-bounded, read-spares)
+  read-bounded offset = search (refused-bounded, verdict-passes, read-of-bounded)
 
   write-of-bounded : (t : Reach) (x : ℕ) → Bounded (enact (writeOf t x (r .settings)) r)
   write-of-bounded Other x = says-bounded _ r refl b
   write-of-bounded Ignored x = says-bounded _ r refl b
   write-of-bounded Error x = says-bounded _ r refl b
   write-of-bounded Pmcntenset x = says-bounded _ _ refl (enables-bounded x)
+  write-of-bounded Pmovsclr x = says-bounded _ _ refl (with-ovs _ (lowered-fits _ (r .ovs)))
+  write-of-bounded Pmovsset x =
+      says-bounded _ _ refl (with-ovs _ (λ e. raised-fits _ (r .ovs) e (shown-bit-31 false (r .settings) x)))
+
+  count-bounded : Bounded (enact Count r)
+  unfolding tooLarge viewOf
+  count-bounded =
+      says-bounded _ _ refl
+      (with-ovs (ovsCounted (r .instructions) (r .ovs))
+      (λ e. raised-fits (λ m. eqb m 32 && carries 64 (r .instructions)) (r .ovs) e refl))
 
   pub write-bounded : (offset x : ℕ) → Bounded (externalWrite offset x r)
   unfolding externalWrite effectOf viewOf
@@ -110,4 +150,4 @@ module _ (r : Machine) (b : tooLarge (viewOf r) ≡ false) where
   pub tick-bounded : (prohibited : Bool) → Bounded (tick prohibited r)
   unfolding tick effectOf tooLarge viewOf
   tick-bounded prohibited =
-      search (refused-bounded, verdict-passes, either (λ e. Bounded (enact e r)), says-bounded)
+      search (refused-bounded, verdict-passes, either (λ e. Bounded (enact e r)), says-bounded, count-bounded)

@@ -53,7 +53,7 @@ module _ (c : Command) (m : Machine) (a : Answer) (next : Machine) where
   pub access-ran :
       (w x : ℕ) (said : Said) (counters : List ℕ) → c ≡ Command.Access w x → Lent (step w x m) said counters
       → a ≡ said .answer
-      → next ≡ machineOf (m .level) (m .settings) (m .events) counters (said .instructions)
+      → next ≡ machineOf (m .level) (m .settings) (m .events) counters (said .instructions) (said .ovs)
       → says a next ≡ execute c m
   unfolding execute
   access-ran w x said counters p l q r =

@@ -39,10 +39,12 @@ fn write_lines(input: &[u8], out: &mut [u8]) -> usize
                     settings,
                     m.level,
                     m.instructions,
+                    m.ovs,
                     word,
                     operand,
                 );
                 m.instructions = said.instructions;
+                m.ovs = said.ovs;
                 let answer = said.answer;
                 a = answer;
             }

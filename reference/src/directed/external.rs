@@ -1,8 +1,9 @@
 //! MODEL E1 to E8, K1 and K2: the external PMCNTENSET_EL0 and ticks. Locks, the
-//! bits that exist, other offsets, and when an instruction is counted.
+//! bits that exist, other offsets, and when an instruction is counted. The other
+//! external registers are in pmovs.rs.
 
 use super::fields::*;
-use super::script::{Change, Script, Switch, PMCNTENSET};
+use super::script::{Change, Script, Switch, PMCNTENSET, PMOVSCLR, PMOVSSET};
 use super::Session;
 use crate::generate::word;
 
@@ -102,7 +103,7 @@ fn offsets_session() -> Vec<u8> {
     let mut script = Script::new(&GIVEN);
     let cases: [&[Change]; 4] =
         [&[(EXT64, 1)], &[], &[(EXT32, 1), (DOUBLE_LOCK, 1)], &[(EXT64, 1), (EL2_ENABLED, 1)]];
-    let beside = (0..16).map(|bit| PMCNTENSET ^ 1 << bit);
+    let beside = (0..16).map(|bit| PMCNTENSET ^ 1 << bit).filter(|&offset| offset != PMOVSCLR);
     let offsets: Vec<u16> = beside.chain([PMCNTENSET, 0xBFF, 0, 0xFFFF, 0x000C]).collect();
     for case in cases {
         script.with(case, |s| {
@@ -124,6 +125,9 @@ fn levels_session() -> Vec<u8> {
         script.level(level);
         script.external_write(PMCNTENSET, 3 << (8 * level));
         script.external_read(PMCNTENSET);
+        script.external_write(PMOVSSET, 3 << (8 * level));
+        script.external_write(PMOVSCLR, 1 << (8 * level));
+        script.external_read(PMOVSCLR);
         script.tick(0);
         script.with(&[(ENABLES, ENABLE_F0)], |s| s.tick(0));
     }

@@ -47,6 +47,11 @@ pub const PMUACR_P: u8 = 0x32;
 pub const PMUACR_F0: u8 = 0x33;
 pub const ENABLES: u8 = 0x34;
 
+// PMCR_EL0.LP, MDCR_EL2.HLP and the overflow flags.
+pub const LP: u8 = 0x35;
+pub const HLP: u8 = 0x36;
+pub const PMOVS: u8 = 0x37;
+
 // The external interface.
 pub const POWERED: u8 = 0x38;
 pub const DOUBLE_LOCK: u8 = 0x39;
@@ -67,7 +72,11 @@ pub const LEVEL: u8 = 0xFE;
 
 /// The bit of the counter enables that is PMICNTR's.
 pub const ENABLE_F0: u64 = 1 << 32;
+/// The bit of the overflow flags that is PMICNTR's.
+pub const PMOVS_F0: u64 = 1 << 32;
 /// The largest value of PMUACR_P, all counters.
 pub const ALL_P: u64 = 0x7FFF_FFFF;
 /// The largest value of ENABLES.
 pub const ALL_ENABLES: u64 = 0x1_FFFF_FFFF;
+/// The largest value of PMOVS: bit 31 is no flag.
+pub const ALL_PMOVS: u64 = 0x1_7FFF_FFFF;

@@ -3,7 +3,7 @@
 //! nothing else.
 
 use super::fields::*;
-use super::script::{Change, Kind, Script, PMCNTENSET};
+use super::script::{Change, Kind, Script, PMCNTENSET, PMOVSCLR, PMSWINC};
 use super::Session;
 
 /// Consistent, and every command passes at levels 0 and 1.
@@ -42,7 +42,7 @@ fn bits() -> impl Iterator<Item = u8> {
         .chain(EL2_ENABLED..=SDD)
         .chain(EN..=TPM_EL2)
         .chain(TPM_EL3..=IR)
-        .chain([PMUACR_F0])
+        .chain([PMUACR_F0, LP, HLP])
         .chain(POWERED..=SOFTWARE_LOCK)
 }
 
@@ -103,10 +103,31 @@ fn external_session(software_lock: u64) -> Vec<u8> {
     script.finish()
 }
 
+/// Increments that carry out of 32 bits, below HPMN and at it, a tick that wraps,
+/// and a read of the flags. P9 is 0, so that P5 can be flipped.
+fn overflow_session(level: u8) -> Vec<u8> {
+    let mut script = Script::new(&GIVEN);
+    script.put(&[(P9, 0), (LEVEL, level as u64)]);
+    for field in bits() {
+        script.put(&[(COUNTER + 3, 0xFFFF_FFFF), (COUNTER + 4, 0xFFFF_FFFF)]);
+        script.put(&[(INSTRUCTIONS, u64::MAX), (PMOVS, 0)]);
+        script.with_flipped(field, |s| {
+            s.access(PMSWINC, 3 << 3);
+            s.tick(0);
+            s.external_read(PMOVSCLR);
+        });
+    }
+    script.finish()
+}
+
 pub fn sessions() -> Vec<Session> {
     let named = |row: &Row| Session::new(format!("each-field-{}", row.0), access_session(row));
     let mut list: Vec<Session> = ROWS.iter().map(named).collect();
     list.push(Session::new("each-field-tick-external", external_session(0)));
     list.push(Session::new("each-field-software-lock", external_session(1)));
+    for level in [0, 3] {
+        let name = format!("each-field-overflow-level-{level}");
+        list.push(Session::new(name, overflow_session(level)));
+    }
     list
 }

@@ -13,6 +13,13 @@ pub type Switch = (u8, u64, u64);
 
 /// Offset of the external PMCNTENSET_EL0.
 pub const PMCNTENSET: u16 = 0xC00;
+/// Offset of the external PMOVSCLR_EL0.
+pub const PMOVSCLR: u16 = 0xC80;
+/// Offset of the external PMOVSSET_EL0.
+pub const PMOVSSET: u16 = 0xCC0;
+
+/// MSR PMSWINC_EL0, X1.
+pub const PMSWINC: u32 = 0xD51B_9C81;
 
 /// The accesses that have rules: MODEL T1 to T6 and I1 to I6.
 #[derive(Clone, Copy, PartialEq, Eq)]
@@ -69,13 +76,16 @@ pub struct Script {
     values: [u64; 256],
     /// Operand of the last write, another one each time.
     serial: u64,
+    /// Some command can have changed the overflow flags.
+    flags: bool,
 }
 
 // Single commands.
 impl Script {
     /// A session that starts by setting the record as given.
     pub fn new(given: &[Change]) -> Script {
-        let mut script = Script { bytes: Vec::new(), values: [0; 256], serial: 0x1000 };
+        let mut script =
+            Script { bytes: Vec::new(), values: [0; 256], serial: 0x1000, flags: false };
         script.put(given);
         script
     }
@@ -104,6 +114,7 @@ impl Script {
 
     /// A set command that is refused.
     pub fn set_refused(&mut self, field: u8, value: u64) {
+        self.flags |= field == PMOVS;
         self.bytes.extend([0x01, field]);
         self.bytes.extend(value.to_le_bytes());
     }
@@ -119,6 +130,7 @@ impl Script {
     }
 
     pub fn access(&mut self, word: u32, operand: u64) {
+        self.flags |= word & !31 == PMSWINC & !31;
         self.bytes.push(0x03);
         self.bytes.extend(word.to_le_bytes());
         self.bytes.extend(operand.to_le_bytes());
@@ -130,12 +142,14 @@ impl Script {
     }
 
     pub fn external_write(&mut self, offset: u16, value: u64) {
+        self.flags |= offset == PMOVSCLR || offset == PMOVSSET;
         self.bytes.push(0x05);
         self.bytes.extend(offset.to_le_bytes());
         self.bytes.extend(value.to_le_bytes());
     }
 
     pub fn tick(&mut self, prohibited: u8) {
+        self.flags = true;
         self.bytes.extend([0x06, prohibited]);
     }
 
@@ -196,7 +210,7 @@ impl Script {
                 self.look(counter_word(true, m, 2));
             }
             Kind::Swinc => {
-                self.access(word(false, 9, 12, 4, 1), 1 << m);
+                self.access(PMSWINC, 1 << m);
                 self.look(counter_word(true, m, 2));
             }
             Kind::IcntrRead => self.access(word(true, 9, 4, 0, 2), 0),
@@ -220,7 +234,7 @@ impl Script {
 }
 
 /// Fields and values under which level 3 reads every counter and the external
-/// register shows all enables.
+/// registers show all enables and flags.
 const OPEN: [Change; 13] = [
     (PMUV3, 1),
     (P5, 1),
@@ -250,7 +264,8 @@ impl Script {
         self.bytes
     }
 
-    /// Reads some counters, PMICNTR and the enables.
+    /// Reads some counters, PMICNTR and the enables, and the overflow flags if
+    /// they can have changed.
     pub fn show(&mut self, counters: impl Iterator<Item = u32>) {
         for (field, value) in OPEN {
             if self.values[field as usize] != value {
@@ -262,6 +277,9 @@ impl Script {
         }
         self.access(word(true, 9, 4, 0, 30), 0);
         self.external_read(PMCNTENSET);
+        if self.flags {
+            self.external_read(PMOVSCLR);
+        }
     }
 
     /// Reads the counters that most sessions use, then ends.

@@ -3,7 +3,7 @@
 //! and for set and level, which do not.
 
 use super::fields::*;
-use super::script::{Change, Kind, Script, Switch, PMCNTENSET};
+use super::script::{Change, Kind, Script, Switch, PMCNTENSET, PMOVSCLR, PMOVSSET};
 use super::Session;
 use crate::generate::{counter_word, word};
 
@@ -136,6 +136,8 @@ fn battery(script: &mut Script) {
     script.access(0, 0);
     script.external_read(PMCNTENSET);
     script.external_write(PMCNTENSET, 2);
+    script.external_read(PMOVSCLR);
+    script.external_write(PMOVSSET, 2);
     script.external_read(PMCNTENSET + 4);
     script.external_write(0, 4);
     script.tick(0);
@@ -207,8 +209,14 @@ fn features_session() -> Vec<u8> {
     script.finish()
 }
 
+/// An external write, then a read.
+fn both_directions(script: &mut Script, offset: u16) {
+    script.external_write(offset, 0x4000_0001);
+    script.external_read(offset);
+}
+
 /// The commands that test the record, one for each session of pairs.
-const COMMANDS: [(&str, fn(&mut Script)); 9] = [
+const COMMANDS: [(&str, fn(&mut Script)); 11] = [
     ("counter-read", |s| s.probe(Kind::CounterRead, 3)),
     ("counter-write", |s| s.access(counter_word(false, 3, 1), 0x99)),
     ("pmswinc", |s| s.access(word(false, 9, 12, 4, 1), 9)),
@@ -217,6 +225,8 @@ const COMMANDS: [(&str, fn(&mut Script)); 9] = [
     ("other-word", |s| s.access(0xD53B_E082, 0)),
     ("external-read", |s| s.external_read(PMCNTENSET)),
     ("external-write", |s| s.external_write(PMCNTENSET, 1 << 31)),
+    ("pmovsclr", |s| both_directions(s, PMOVSCLR)),
+    ("pmovsset", |s| both_directions(s, PMOVSSET)),
     ("tick", |s| s.tick(0)),
 ];
 

@@ -1,9 +1,12 @@
 //! What the directed sessions reach: every answer, every refusal that a session
-//! can reach, every target of a trap, every register in both directions.
+//! can reach, every target of a trap, every register in both directions, every
+//! overflow flag.
 
-use super::{all, fields::LEVEL, Session};
+use super::fields::{ALL_PMOVS, LEVEL, PMOVS};
+use super::script::{PMCNTENSET, PMOVSCLR, PMOVSSET};
+use super::{all, Session};
 use crate::model::{Machine, Move, Register};
-use crate::session::{parse, run, Command, Parsed, LIMIT};
+use crate::session::{obey, parse, run, Command, Parsed, LIMIT};
 use std::collections::BTreeSet;
 
 /// The answers of a session, without their positions.
@@ -62,6 +65,22 @@ fn names_are_plain_and_different() {
         assert!(session.name.chars().all(plain), "{}", session.name);
         assert!(session.name.len() + ".bin".len() <= 60, "{}", session.name);
         assert!(session.bytes.len() <= LIMIT + 1, "{}", session.name);
+        let long = session.bytes.len() > LIMIT;
+        assert!(!long || session.name.starts_with("refusal-6-"), "{}", session.name);
+    }
+}
+
+/// The sessions are stored beside the examples, under the names of both.
+#[test]
+fn no_name_is_that_of_an_example() {
+    let beside = concat!(env!("CARGO_MANIFEST_DIR"), "/../examples");
+    let directory = std::env::var("REFERENCE_EXAMPLES").unwrap_or(beside.to_string());
+    for directory in [directory.clone(), format!("{directory}/limits")] {
+        for entry in std::fs::read_dir(&directory).expect("examples") {
+            let path = entry.expect("entry").path();
+            let taken = |session: &Session| path.file_stem() == Some(session.name.as_ref());
+            assert!(!all().iter().any(taken), "{}", path.display());
+        }
     }
 }
 
@@ -130,13 +149,84 @@ fn every_command_that_tests_the_record_is_refused_by_each_number() {
 }
 
 #[test]
+fn every_external_register_gets_each_answer() {
+    for offset in [PMCNTENSET, PMOVSCLR, PMOVSSET] {
+        let mut seen = [BTreeSet::new(), BTreeSet::new()];
+        for session in all().iter().filter(|session| session.bytes.len() <= LIMIT) {
+            for (command, answer) in commands(session).into_iter().zip(answers(session)) {
+                match command {
+                    Command::Read { offset: o } if o == offset => seen[0].insert(kind(&answer)),
+                    Command::Write { offset: o, .. } if o == offset => {
+                        seen[1].insert(kind(&answer))
+                    }
+                    _ => false,
+                };
+            }
+        }
+        for (seen, passed) in seen.into_iter().zip(["value", "ok"]) {
+            let mut wanted = BTreeSet::from([passed.to_string(), "error".to_string()]);
+            wanted.extend((11..=17).map(|number| format!("refused {number}")));
+            assert_eq!(seen, wanted, "{offset:X}");
+        }
+    }
+}
+
+/// Both registers show each flag set and each one clear, and never bit 31.
+#[test]
+fn every_flag_is_shown() {
+    for offset in [PMOVSCLR, PMOVSSET] {
+        let (mut set, mut clear) = (0, 0);
+        for session in all().iter().filter(|session| session.bytes.len() <= LIMIT) {
+            for (command, answer) in commands(session).into_iter().zip(answers(session)) {
+                let digits = answer.strip_prefix("value ");
+                if let (Command::Read { offset: o }, Some(digits)) = (command, digits) {
+                    if o == offset {
+                        let value = u64::from_str_radix(digits, 16).expect("digits");
+                        set |= value;
+                        clear |= !value;
+                    }
+                }
+            }
+        }
+        assert_eq!((set, clear), (ALL_PMOVS, u64::MAX), "{offset:X}");
+    }
+}
+
+/// Increments that set a flag and increments that do not: below HPMN and from it
+/// up, with p5 and without it, the long bit 0 and 1.
+#[test]
+fn every_carry_is_there() {
+    let mut seen = BTreeSet::new();
+    for session in all().iter().filter(|session| session.bytes.len() <= LIMIT) {
+        let mut machine = Machine::default();
+        for command in commands(session) {
+            let before = machine.clone();
+            obey(&mut machine, command);
+            if target(command) == Some(("PMSWINC", false)) {
+                for m in (0..31).filter(|&m| machine.pmevcntr[m] != before.pmevcntr[m]) {
+                    let high = before.have_el2 && m >= before.hpmn as usize;
+                    let long = if high { before.hlp } else { before.lp };
+                    let flag = (machine.pmovs & !before.pmovs) >> m & 1;
+                    seen.insert((high, before.pmuv3p5, long, flag));
+                }
+            }
+        }
+    }
+    assert_eq!(seen.len(), 16, "{seen:?}");
+}
+
+#[test]
 fn every_field_is_set_and_exceeded() {
     let mut taken = BTreeSet::new();
     let mut exceeded = BTreeSet::new();
     let mut unknown = BTreeSet::new();
+    let mut refused_flags = BTreeSet::new();
     for session in all().iter().filter(|session| session.bytes.len() <= LIMIT) {
         for (command, answer) in commands(session).into_iter().zip(answers(session)) {
             if let Command::Set { field, value } = command {
+                if field == PMOVS && answer == "refused 4" {
+                    refused_flags.insert(value);
+                }
                 match answer.as_str() {
                     "ok" if Machine::largest(field) == Some(value) => taken.insert(field),
                     "ok" => false,
@@ -155,5 +245,8 @@ fn every_field_is_set_and_exceeded() {
             }
             None => assert!(unknown.contains(&field), "{field:02X}"),
         }
+    }
+    for value in [1 << 31, ALL_PMOVS + 1, 1 << 33, u64::MAX] {
+        assert!(refused_flags.contains(&value), "{value:X}");
     }
 }

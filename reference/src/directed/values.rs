@@ -2,7 +2,7 @@
 //! beside it, and that a refused value (MODEL R4) changes nothing.
 
 use super::fields::*;
-use super::script::{Change, Kind, Script, PMCNTENSET};
+use super::script::{Change, Kind, Script, PMCNTENSET, PMOVSCLR, PMSWINC};
 use super::Session;
 use crate::generate::{counter_word, word};
 
@@ -40,9 +40,11 @@ enum Witness {
     Wide,
     /// An external write of all bits, then a read; the enables start as 0.
     External,
+    /// An increment that carries out of 32 bits, then a read of the flags.
+    Carry,
 }
 
-use Witness::{Access, External, Wide};
+use Witness::{Access, Carry, External, Wide};
 
 /// A field of one bit, what else is set so that it matters, and what shows it.
 type Row = (u8, &'static [Change], Witness);
@@ -100,6 +102,9 @@ const LOCKS: [Row; 5] = [
     (SOFTWARE_LOCK, &[], External),
 ];
 
+/// Counter 3 is below HPMN, or at it.
+const LONG: [Row; 2] = [(LP, &[], Carry), (HLP, &[(HPMN, 3), (LEVEL, 2)], Carry)];
+
 /// What shows the value of a field.
 fn show(script: &mut Script, witness: Witness) {
     match witness {
@@ -113,6 +118,11 @@ fn show(script: &mut Script, witness: Witness) {
             script.external_write(PMCNTENSET, u64::MAX);
             script.external_read(PMCNTENSET);
             script.set(ENABLES, 0);
+        }
+        Carry => {
+            script.put(&[(COUNTER + 3, 0xFFFF_FFFF), (PMOVS, 0)]);
+            script.access(PMSWINC, 1 << 3);
+            script.external_read(PMOVSCLR);
         }
     }
 }
@@ -188,6 +198,33 @@ fn masks_session() -> Vec<u8> {
     script.finish()
 }
 
+/// The overflow flags: values that they take, and values with bit 31, below the
+/// largest and above it, or with higher bits.
+fn flags_session() -> Vec<u8> {
+    let mut script = Script::new(&GIVEN);
+    script.set(N, 31);
+    let taken = [ALL_PMOVS, 0, 1, 1 << 30, ALL_P, PMOVS_F0, PMOVS_F0 + 1, ALL_PMOVS - 1];
+    let with_bit_31 = [1 << 31, (1 << 31) + 1, 0xFFFF_FFFF, ALL_PMOVS + 1, 0x1_FFFF_FFFF];
+    let above = [1 << 33, (1 << 33) + 1, 1 << 63, u64::MAX - (1 << 31), u64::MAX];
+    for flags in taken {
+        script.set(PMOVS, flags);
+        for refused in with_bit_31.iter().chain(&above) {
+            script.set_refused(PMOVS, *refused);
+        }
+        script.external_read(PMOVSCLR);
+    }
+    for bit in 0..64 {
+        script.set(PMOVS, 0);
+        if ALL_PMOVS >> bit & 1 == 1 {
+            script.set(PMOVS, 1 << bit);
+        } else {
+            script.set_refused(PMOVS, 1 << bit);
+        }
+        script.external_read(PMOVSCLR);
+    }
+    script.finish()
+}
+
 /// Event numbers of all counters: 0x10000 would be 0 if it were cut off.
 fn events_session() -> Vec<u8> {
     let mut script = Script::new(&GIVEN);
@@ -231,8 +268,10 @@ pub fn sessions() -> Vec<Session> {
         Session::new("fields-controls-20-to-29", bits_session(controls.0)),
         Session::new("fields-controls-2a-to-33", bits_session(controls.1)),
         Session::new("fields-external", bits_session(&LOCKS)),
+        Session::new("fields-lp-hlp", bits_session(&LONG)),
         Session::new("fields-n-hpmn", counts_session()),
         Session::new("fields-pmuacr-enables", masks_session()),
+        Session::new("fields-overflow-flags", flags_session()),
         Session::new("fields-event-numbers", events_session()),
         Session::new("fields-counters", counters_session()),
     ]

@@ -138,7 +138,7 @@ module _ {M : Type 1} (𝓤 : URA M) (H : Heap 𝓤) (A : Atoms 𝓤) (W : Given
         (LL.tells M′.the-type M″.the-laws) fullShare h vs b o $ move ! (1 ∷ []) $ shown ! M′.the-row h (val h ∷ []) (λ is-h.
         -- [what the record owns; its cell; the open borrow; obs; auth; room for _5; …]
         assigns ! (of-opd ! (load ! (from ! (hop ! (look ! 13 refl) (stop !))) (look-raw ! 1 refl)))
-        (from ! (stop !)) (init ! 5 refl (machine-fits W h _ is-h)) $
+        (from ! (stop !)) (init ! 5 {τ = M″.mir} {b = l₅} {o = zero} {v = val h} refl (machine-fits W h (val h) is-h)) $
         drop ! $ nothing ! $ use1 W (raw (ByValue 𝓤 H A at-mem run .pre to-step)) (goes-step is-h) $
         calls-at ! fm (ByValue 𝓤 H A at-mem run) known to-step
         (and-then ! (load ! (from ! (stop !)) (look ! 11 refl)) (and-then ! (load ! (from ! (stop !)) (look ! 9 refl))
@@ -148,14 +148,16 @@ module _ {M : Type 1} (𝓤 : URA M) (H : Heap 𝓤) (A : Atoms 𝓤) (W : Given
         (id⊢ 𝓤 _) $ await ! tt $ pick ! (λ out.
         split ! $ move ! (1 ∷ []) $ use1 W (raw (fact 𝓤 (out ≡ stepOf w x h))) (said-of 𝓤 H A at-mem run w x h out) $
         heard ! (out ≡ stepOf w x h) (λ e. split ! $ drop ! $ shown ! O′.the-row out (v ∷ []) (λ is.
-        land ! (from ! (stop !)) (init ! 7 refl (outcome-fits W out v is)) $ drop ! $
+        land ! (from ! (stop !)) (init ! 7 {τ = layout} {b = l₄} {o = zero} {v = v} refl (outcome-fits W out v is)) $ drop ! $
         rewrite ! 6 (λ (u : Val). ‵ (fat fullShare layout l₄ zero u))
         (ap only (LL.tells O′.the-type O″.the-laws out (v ∷ []) is)) refl $
         -- the record that came back is stored, and the borrow is closed at it
         assigns ! (of-opd ! (load ! (from ! (fld ! at-machine (stop !))) (look-in ! 6 (sub ! 1 at-machine (whole !)))))
         (from ! (hop ! (look ! 12 refl) (stop !))) (store-raw ! 0 refl (machine-fits W (out .machine) _ (its-machine out v is))) $
         assigns ! (of-opd ! (load ! (from ! (fld ! at-answer (stop !))) (look-in ! 6 (sub ! 0 at-answer (whole !)))))
-        (from ! (stop !)) (init ! 14 refl (answer-fits W (out .answer) _ (its-answer out v is))) $
+        (from ! (stop !))
+        (init ! 14 {τ = N″.mir} {b = l₀} {o = zero} {v = answer-val (out .answer)} refl
+        (answer-fits W (out .answer) (answer-val (out .answer)) (its-answer out v is))) $
         owned ! M′.the-row (Is M′.the-row) (LL.makes M′.the-type M″.the-plain 𝓤 H A) (out .machine) _ (its-machine out v is) $
         move ! (1 ∷ 0 ∷ []) $ closes ! tt M′.the-row (out .machine) (val (out .machine) ∷ []) b o $
         -- [obs; the borrow; the token; _5; …; _4; …; _3; …; _2; …; _1; …; _0; …]

@@ -50,7 +50,7 @@ loop-again c =
     let at-lent = c .before .before in
     let at-loop-test = at-lent .before .before .before .before .before .before in
     let at-loop = at-loop-test .before in
-    let at-start = at-loop .before .before .before .before in (
+    let at-start = c .before .before .before .before .before .before .before .before .before .before .before .before .before in (
       omega arith,
       omega (arith, c .wrapping-add-u64 .ensures),
       summed-next (at-start .args .list .now) (at-start .args .x) (at-loop .loop .m) (at-loop .loop .sum)
@@ -65,9 +65,7 @@ returns : tie.Need-returns Inv-loop μ-loop
 returns c =
     let at-loop = c .before in
     let at-start = at-loop .before .before .before .before in
-    sym
-    (summed-done (at-start .args .list .now) (at-start .args .x) (at-loop .loop .m) (c .loop-test .left) (at-loop .loop .inv .1))
-    ∙ at-loop .loop .inv .2
+    sym (summed-done (at-start .args .list .now) (at-start .args .x) (at-loop .loop .m) (c .loop-test .left) (at-loop .loop .inv .1)) ∙ at-loop .loop .inv .2
 
 pub measure-lent-spec : {M : Type 1} → statement M
 measure-lent-spec =

@@ -1,7 +1,7 @@
 -- `access::counters::incremented` meets its contract: a sum that wraps at 64 bits, cut to the counter's width.
 use Prim.Native.Nat.{_%_, _^_}
 use mathlib.Core.Path.{_∙_, ap}
-use Rattle.rules.specs.Apply.{width}
+use Rattle.rules.specs.Overflow.{width}
 use Rattle.rules.proofs.Width.{one-more}
 use Rattle.access.proofs.counters.incremented.Statement.{statement}
 use Rattle.access.proofs.counters.incremented.Tie as tie

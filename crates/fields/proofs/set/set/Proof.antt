@@ -1,6 +1,5 @@
 -- `set` meets its contract: a law of the definition for each way through the tests.
 use mathlib.Core.Path.{sym, _∙_}
-use native.Mathlib.Omega.{arith}
 use Rattle.fields.proofs.SetLaws.{set-unknown, set-large, set-stores}
 use Rattle.fields.proofs.set.set.Statement.{statement}
 use Rattle.fields.proofs.set.set.Tie as tie
@@ -11,21 +10,19 @@ returns c = sym (set-unknown _ _ _ (sym (c .before .largest .ensures) ∙ c .if1
 returns-2 : tie.Need-returns-2
 returns-2 c =
     let at-largest = c .before .before in
-    sym
-    (set-large _ _ _ (λ z. c .before .if1 .left (at-largest .largest .ensures ∙ z))
-    (omega (arith, at-largest .largest .ensures)))
+    sym (set-large _ _ _ (λ z. c .before .if1 .left (at-largest .largest .ensures ∙ z)) (simp (at-largest .largest .ensures) at (c .if2 .taken)))
 
 returns-3 : tie.Need-returns-3
 returns-3 c =
-    let at-events2 = c .before .before in
+    let at-counters2 = c .before .before in
+    let at-events2 = at-counters2 .before in
     let at-settings2 = at-events2 .before in
     let at-if2 = at-settings2 .before .before .before .before in
     let at-if1 = at-if2 .before in
     let at-largest = at-if1 .before in
     simp
-    (at-settings2 .settings2 .ensures, at-events2 .events2 .ensures, c .before .counters2 .ensures, c .pick .ensures)
-    (set-stores _ _ _ (λ z. at-if1 .if1 .left (at-largest .largest .ensures ∙ z))
-    (omega (arith, at-largest .largest .ensures, at-if2 .if2 .left)))
+    (at-settings2 .settings2 .ensures, at-events2 .events2 .ensures, at-counters2 .counters2 .ensures, c .before .pick .ensures, c .pick2 .ensures)
+    (set-stores _ _ _ (λ z. at-if1 .if1 .left (at-largest .largest .ensures ∙ z)) (simp (at-largest .largest .ensures) at (at-if2 .if2 .left)))
 
 pub set-spec : {M : Type 1} → statement M
 set-spec =
@@ -34,6 +31,7 @@ set-spec =
     (λ c κs. tt)
     returns
     returns-2
+    (λ c κs. tt)
     (λ c κs. tt)
     (λ c κs. tt)
     (λ c κs. tt)

@@ -1,10 +1,10 @@
--- `store::mdcr2` meets its contract: the flag by computation, HPMN by `pick`.
+-- `store::mdcr2` meets its contract: the flags by computation, HPMN by `pick`.
 use Rattle.fields.proofs.store.mdcr2.Statement.{statement}
 use Rattle.fields.proofs.store.mdcr2.Tie as tie
 
 returns : tie.Need-returns
 unfolding Rattle.fields.specs.Store.storeMdcr2
-returns c = simp (c .before .pick .ensures)
+returns c = simp (c .before .before .pick .ensures)
 
 pub mdcr2-spec : {M : Type 1} → statement M
 mdcr2-spec = tie.close (tie.spec (λ c κs. tt) returns)

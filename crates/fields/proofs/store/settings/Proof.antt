@@ -13,11 +13,13 @@ returns c =
     let at-mdcr2 = at-mdcr3 .before in
     let at-hcr = at-mdcr2 .before in
     let at-pmuserenr = at-hcr .before in
-    let at-execution = at-pmuserenr .before in
+    let at-pmcr = at-pmuserenr .before in
+    let at-execution = at-pmcr .before in
     let at-features = at-execution .before in
     simp (
       at-features .features .ensures,
       at-execution .execution .ensures,
+      at-pmcr .pmcr .ensures,
       at-pmuserenr .pmuserenr .ensures,
       at-hcr .hcr .ensures,
       at-mdcr2 .mdcr2 .ensures,
@@ -34,6 +36,7 @@ pub settings-spec : {M : Type 1} → statement M
 settings-spec =
     tie.close
     (tie.spec
+    (λ c κs. tt)
     (λ c κs. tt)
     (λ c κs. tt)
     (λ c κs. tt)

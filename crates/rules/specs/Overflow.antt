@@ -1,0 +1,43 @@
+-- Overflow of counters: where an increment carries, and the flags that are then set.
+use Prim.Native.Nat.{ℕ, _+_, _%_, _^_}
+use mathlib.Core.Bool.{Bool, cond, not, _&&_, _||_}
+use lib.Dec.{leb}
+use Rattle.bits.specs.Bits.{bit, fromBits}
+use Rattle.machine.specs.declared.Settings.{Settings}
+
+-- MODEL G1: the bits of an event counter
+abbrev pub width : Bool → ℕ
+width p5 = cond p5 64 32
+
+-- MODEL G10 and K2: one more, in a width of k bits
+abbrev pub plusOne : ℕ → ℕ → ℕ
+plusOne k y = (y + 1) % 2 ^ k
+
+-- MODEL G11 and K3: one more carries out of the lowest k bits
+abbrev pub carries : ℕ → ℕ → Bool
+carries k y = leb (2 ^ k) (y % 2 ^ k + 1)
+
+-- MODEL G12: event counter m is in the second range, that of EL2: at or above HPMN with EL2 implemented. Rule 5 and the ignored
+-- bits of PMSWINC (`atOrAboveHpmn`) ask whether EL2 is enabled
+abbrev pub inSecondRange : Settings → ℕ → Bool
+inSecondRange s m = s .features .el2 && leb (s .mdcr2 .hpmn) m
+
+-- MODEL G12: the long bit of event counter m
+abbrev pub longBit : Settings → ℕ → Bool
+longBit s m = cond (inSecondRange s m) (s .mdcr2 .hlp) (s .pmcr .lp)
+
+-- MODEL G11: the bits out of which event counter m overflows; without p5 the long bit is not looked at
+abbrev pub overflowWidth : Settings → ℕ → ℕ
+overflowWidth s m = width (s .features .p5 && longBit s m)
+
+-- MODEL F22: the overflow flags and the counter enables have 33 bits: the event counters', bit 31, and the instruction counter's
+abbrev pub flagBits : ℕ
+flagBits = 33
+
+-- MODEL E8, G13 and K3: flags with those of f set too; none is cleared
+unfoldable pub raised : (ℕ → Bool) → ℕ → ℕ
+raised f flags = fromBits flagBits (λ m. bit m flags || f m)
+
+-- MODEL E11: flags with those of f cleared; none is set
+unfoldable pub lowered : (ℕ → Bool) → ℕ → ℕ
+lowered f flags = fromBits flagBits (λ m. bit m flags && not (f m))
