@@ -71,7 +71,7 @@ module _ (call : MayGive) (exact : Exact call) where
       (λ e. e)
 
   -- what the calls answer and leave is what `run` says
-  calls-run :
+  pub calls-run :
       {accesses : List Access} {r after : Machine} {answers : List Answer} → Calls call accesses r answers after
       → (answers ≡ run accesses r .answers) × (after ≡ run accesses r .machine)
   unfolding run access

@@ -8,7 +8,7 @@ use native.Mathlib.Omega.{arith}
 use borrow.Author.Tests.{le-ltb, eqb-false}
 use lib.Dec.{eqb}
 use lib.Bits.{bitAnd, bitOr, bitXor}
-use Rattle.bits.specs.Bits.{bit, fromBits}
+use Rattle.bits.specs.Bits.{bit}
 use Rattle.bits.proofs.FromBits.{fromBits-ext, fromBits-mod, fromBits-lt, bit-fromBits}
 use Rattle.bits.proofs.Single.{bit-zero, bit-power, bit-or, bit-xor-and}
 use Rattle.fields.specs.Largest.{largest, exceeds}

@@ -1,20 +1,20 @@
 -- No access reads or clears an overflow flag, and accesses set flags by increments alone: the claims of
 -- specs/OverflowClaims.antt, each by what one decision does and an induction over the list.
-use Prim.Native.Nat.{ℕ, _+_, _-_, _*_, _/_, _%_, _^_, _<_, _≤_}
+use Prim.Native.Nat.{ℕ, _<_, _≤_}
 use mathlib.Core.Bool.{Bool, true, false, _&&_, _||_, or-true, false≢true}
 use mathlib.Core.List.{List, [], _∷_}
 use mathlib.Core.Path.{_≡_, refl, sym, _∙_, ap, ap₂, subst}
 use native.Mathlib.Omega.{arith}
-use borrow.Author.Tests.{le-ltb, ltb-true, ltb-false}
-use lib.Dec.{ltb, eqb}
+use borrow.Author.Tests.{ltb-true, ltb-false}
+use lib.Dec.{ltb}
 use lib.ListN.{getD}
 use Rattle.bits.specs.Bits.{bit}
 use Rattle.bits.proofs.Single.{bit-past}
-use Rattle.fields.specs.Largest.{largest, exceeds}
+use Rattle.fields.specs.Largest.{exceeds}
 use Rattle.machine.specs.declared.Machine.{Machine}
 use Rattle.machine.specs.declared.Outcome.{Outcome}
 use Rattle.machine.specs.Machine.{withLevel, withOvs}
-use Rattle.machine.proofs.Bools.{and-left, and-right, or-left}
+use Rattle.machine.proofs.Bools.{and-left, and-right}
 use Rattle.state.specs.declared.View.{View}
 use Rattle.state.specs.State.{viewOf}
 use Rattle.state.proofs.Consistent.{ovs-fits}
@@ -22,7 +22,7 @@ use Rattle.rules.specs.declared.Decision.{Decision}
 use Rattle.rules.specs.declared.Decision.the-variants.{Says, Read, Write, Add}
 use Rattle.rules.specs.declared.Place.the-variants.{Counter, Instructions}
 use Rattle.rules.specs.Overflow.{flagBits, raised, carries, overflowWidth}
-use Rattle.rules.specs.Apply.{added, overflows, apply}
+use Rattle.rules.specs.Apply.{added, apply}
 use Rattle.rules.specs.Step.{Access, decide, step, access, run}
 use Rattle.rules.specs.Isolation.{Start}
 use Rattle.rules.specs.OverflowClaims.{NoneCleared, SetByIncrementsAlone, addsTo, incrementedBy, incrementedIn}

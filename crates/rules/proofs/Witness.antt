@@ -1,5 +1,5 @@
 -- The claims of noninterference are not empty: records that differ in one hidden counter and meet all that a claim asks for, and
--- what it says of them. Counter 5 is at or above HPMN and has no P bit; F0 is 0.
+-- what it says of them. Counter 5 is at or above HPMN and has no P bit; F0 is 0. And records that differ in an overflow flag.
 use Prim.Native.Nat.{ℕ, zero, suc, _≤_}
 use mathlib.Core.Bool.{Bool, true, false, false≢true}
 use mathlib.Core.List.{List, [], _∷_}
@@ -11,8 +11,10 @@ use Rattle.fields.specs.Store.{store, storeSettings, storeFeatures, storeMdcr2,
 use Rattle.machine.specs.declared.Machine.{Machine}
 use Rattle.rules.specs.Example.{setAll, usual}
 use Rattle.rules.specs.Isolation.{Start, Isolated, fromLevels, fromHpmn, withoutP, instructionCounter}
-use Rattle.rules.specs.Step.{Access}
+use Rattle.rules.specs.OverflowClaims.{AlikeButOvs}
+use Rattle.rules.specs.Step.{Access, run}
 use Rattle.rules.proofs.Isolation.{noninterference}
+use Rattle.rules.proofs.OverflowClaims.{overflow-claims}
 use Rattle.state.specs.State.{viewOf, tooLarge, refusals, verdictOf}
 
 one : Machine
@@ -26,6 +28,10 @@ two = setAll ((0x23, 1) ∷ (0x65, 2) ∷ (0x7F, 1) ∷ []) usual
 three : Machine
 three = setAll ((0x23, 1) ∷ (0x65, 1) ∷ (0x7F, 2) ∷ []) usual
 
+-- another overflow flag
+four : Machine
+four = setAll ((0x23, 1) ∷ (0x65, 1) ∷ (0x7F, 1) ∷ (0x37, 0x20) ∷ []) usual
+
 start-one : Start one
 unfolding one largest set store storeSettings storeFeatures storeMdcr2 storePmuacr setAll usual viewOf tooLarge refusals verdictOf
 start-one = record { sized = refl; consistent = refl }
@@ -38,6 +44,11 @@ start-three : Start three
 unfolding three largest set store storeSettings storeFeatures storeMdcr2 storePmuacr
     setAll usual viewOf tooLarge refusals verdictOf
 start-three = record { sized = refl; consistent = refl }
+
+start-four : Start four
+unfolding four largest set store storeSettings storeFeatures storeMdcr2 storePmuacr
+    setAll usual viewOf tooLarge refusals verdictOf
+start-four = record { sized = refl; consistent = refl }
 
 -- counters other than 5 are equal in the first two
 others :
@@ -94,3 +105,7 @@ instructions accesses l =
       instructions = λ e. absurd (false≢true (sym e));
       ovs = refl;
     })
+
+flags : (accesses : List Access) → AlikeButOvs (run accesses one) (run accesses four)
+unfolding one four largest set store storeSettings storeFeatures storeMdcr2 storePmuacr setAll usual
+flags accesses = overflow-claims .unread one four accesses start-one start-four refl

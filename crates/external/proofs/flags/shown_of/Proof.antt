@@ -1,6 +1,5 @@
 -- `external::flags::shown_of` meets its contract: the sum that is shown, of which no part meets another.
-use Prim.Native.Nat.{_*_, _/_, _%_, _^_, _≤_}
-use mathlib.Core.Bool.{cond}
+use Prim.Native.Nat.{_*_, _/_, _%_, _^_}
 use mathlib.Core.Path.{sym}
 use native.Mathlib.Nat.{mod-le}
 use native.Mathlib.Omega.{arith}
