@@ -40,7 +40,7 @@ const BIT_F0: u64 = 1 << 32;
 /// Bit 31 would be PMCCNTR_EL0's, of which there is no model.
 const PMOVS_BITS: u64 = BIT_F0 | 0x7FFF_FFFF;
 
-/// MODEL F1 to F18: the machine record. A fresh one is all zero.
+/// MODEL F1 to F22: the machine record. A fresh one is all zero.
 #[derive(Clone, Debug, Default, PartialEq, Eq)]
 pub struct Machine {
     /// PSTATE.EL
@@ -377,7 +377,7 @@ impl Machine {
     }
 }
 
-// Arm's page of PMSWINC_EL0: MODEL U3, U4, T1 to T10 and G8 to G10.
+// Arm's page of PMSWINC_EL0: MODEL U3, U4, T1 to T10 and G8 to G13.
 impl Machine {
     fn pmswinc_at_el0(&self) -> Flow {
         if self.el3_priority() && self.mdcr_el3_tpm {
@@ -734,7 +734,7 @@ impl External {
     }
 }
 
-// Arm's page of the external PMCNTENSET_EL0: MODEL E1 to E8. PMOVSCLR_EL0 and
+// Arm's page of the external PMCNTENSET_EL0: MODEL E1 to E12. PMOVSCLR_EL0 and
 // PMOVSSET_EL0 are reached like it.
 impl Machine {
     /// Tests that external reads and writes share, up to which register it is;
@@ -819,7 +819,7 @@ impl Machine {
     }
 }
 
-// Ticks: MODEL K1 and K2.
+// Ticks: MODEL K1 to K3.
 impl Machine {
     /// The tick command: one executed instruction.
     pub fn tick(&mut self, prohibited: u8) -> Answer {

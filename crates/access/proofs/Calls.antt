@@ -20,7 +20,7 @@ use Rattle.machine.proofs.Machine as M′
 use Rattle.rules.specs.Isolation.{SameExcept, Kept, Named, Start, Isolated, Claim}
 use Rattle.rules.proofs.Isolation.{noninterference}
 use Rattle.rules.specs.Step.{Access, step, access, run}
-use Rattle.access.specs.Calls.{Holds, Obeyed, Reference, MayGive, Calls, none, next, AnsweredAlike, CallsClaim}
+use Rattle.access.specs.Calls.{Holds, Obeyed, Reference, MayGive, Calls, none, next, CallsRun, AnsweredAlike, CallsClaim}
 use Rattle.access.specs.Calls.{CallsNoninterference}
 use Rattle.access.proofs.step as by-value
 
@@ -71,7 +71,7 @@ module _ (call : MayGive) (exact : Exact call) where
       (λ e. e)
 
   -- what the calls answer and leave is what `run` says
-  pub calls-run :
+  calls-run :
       {accesses : List Access} {r after : Machine} {answers : List Answer} → Calls call accesses r answers after
       → (answers ≡ run accesses r .answers) × (after ≡ run accesses r .machine)
   unfolding run access
@@ -82,6 +82,9 @@ module _ (call : MayGive) (exact : Exact call) where
         (λ i. e .0 i ∷ (ih .0 ∙ ap (λ r. run rest r .answers) (e .1)) i),
         ih .1 ∙ ap (λ r. run rest r .machine) (e .1),
       )
+
+  pub exact-calls-run : CallsRun call
+  exact-calls-run accesses r after answers c = calls-run c
 
   calls-isolated :
       {x : Named} {accesses : List Access} {r₁ r₂ after₁ after₂ : Machine} {answers₁ answers₂ : List Answer}
@@ -134,6 +137,10 @@ call-exact m =
           (λ e. (ap (λ o. o .answer) e, ap (λ o. o .machine) e));
       may = λ w x r g s. stated m (step w x r ≡ step w x r) refl s;
     }
+
+-- the calls of `access::step` answer and leave what `run` says
+pub calls-are-run : (m : World) → CallsRun (Call m)
+calls-are-run m = exact-calls-run (Call m) (call-exact m)
 
 -- demand 3 of the calls of `access::step`
 pub calls-noninterference : (m : World) → CallsNoninterference (Call m)

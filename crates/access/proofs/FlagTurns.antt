@@ -1,16 +1,18 @@
 -- The overflow flags in the loop of PMSWINC: a turn sets the flag of its counter where that overflows, and after the last turn
 -- the flags are those of the definition.
-use Prim.Native.Nat.{ℕ, _+_, _/_, _%_, _^_, _≤_}
+use Prim.Native.Nat.{ℕ, _+_, _-_, _/_, _%_, _^_, _≤_}
 use mathlib.Core.Bool.{Bool, true, false, _&&_, _||_, and-false, or-false}
 use mathlib.Core.List.{List}
 use mathlib.Core.Path.{_≡_, refl, sym, _∙_, ap}
 use native.Mathlib.Omega.{arith}
-use borrow.Author.Tests.{lt-ltb, le-ltb, ltb-true, ltb-false, eqb-true, eqb-false}
+use borrow.Author.Tests.{lt-ltb, le-ltb, ltb-true, ltb-false, eq-eqb, eqb-true, eqb-false}
 use lib.Dec.{ltb, eqb}
 use lib.ListN.{getD, length, List·getD-eq-default}
 use Rattle.machine.specs.declared.Settings.{Settings}
-use Rattle.rules.specs.Overflow.{width, carries, longBit, raised}
+use Rattle.rules.specs.Overflow.{width, carries, longBit, overflowWidth, raised}
 use Rattle.rules.specs.Apply.{added, overflows}
+use Rattle.bits.proofs.Single.{mod-mod}
+use Rattle.rules.proofs.Width.{carries-ones}
 use Rattle.rules.proofs.Flags.{raised-ext, raised-none, raised-on}
 use Rattle.access.proofs.Turns.{no-bit}
 
@@ -26,6 +28,23 @@ last-first true false true = refl
 last-first true false false = refl
 last-first false o true = refl
 last-first false o false = refl
+
+-- an increment that carries out of the counter's overflow width carries out of its lower half
+carries-low : (long : Bool) (y : ℕ) → carries (width long) y ≡ true → eqb (y % 2 ^ 32) (2 ^ 32 - 1) ≡ true
+carries-low true y e =
+    let all : y % 2 ^ 64 ≡ 2 ^ 64 - 1 = eqb-true (y % 2 ^ 64) (2 ^ 64 - 1) (sym (carries-ones 64 y) ∙ e) in
+    eq-eqb (y % 2 ^ 32) (2 ^ 32 - 1) (sym (mod-mod y 64 32 (omega arith)) ∙ ap (λ z. z % 2 ^ 32) all)
+carries-low false y e = sym (carries-ones 32 y) ∙ e
+
+-- so where the lower half is not all ones, or the counter takes no increment, it does not overflow
+pub no-overflow :
+    (on long : Bool) (y : ℕ) → on && eqb (y % 2 ^ 32) (2 ^ 32 - 1) ≡ false → on && carries (width long) y ≡ false
+no-overflow false long y n = refl
+no-overflow true long y n = go (carries (width long) y) refl
+  where
+    go : (b : Bool) → carries (width long) y ≡ b → b ≡ false
+    go true e = sym (carries-low long y e) ∙ n
+    go false e = refl
 
 -- below i + 1 is below i, or i
 below-next : (m i : ℕ) → (eqb m i ≡ false) → ltb m i ≡ ltb m (i + 1)
@@ -66,25 +85,21 @@ module _ (s : Settings) (e : List ℕ) (mask : ℕ) (c : List ℕ) (ovs : ℕ) w
 
   -- one turn, from the bits that are left, the counter's event number and what it holds
   pub flag-turn :
-      (i rest event y : ℕ) (long over : Bool) (flags r : ℕ)
+      (i rest event y flags r : ℕ)
       → flags ≡ flagged i
       → rest ≡ mask / 2 ^ i
       → event ≡ getD e i 0
       → y ≡ getD c i 0
-      → long ≡ s .features .p5 && longBit s i
-      → over ≡ carries (width long) y
-      → r ≡ raised (λ m. eqb m i && (((eqb (rest % 2) 1 && eqb event 0) && over) && ltb i 31)) flags
+      → r ≡ raised (λ m. eqb m i && (((eqb (rest % 2) 1 && eqb event 0) && carries (overflowWidth s i) y) && ltb i 31)) flags
       → r ≡ flagged (i + 1)
-  flag-turn i rest event y long over flags r p q n v w o h =
+  flag-turn i rest event y flags r p q n v h =
       h
-      ∙ (λ j. raised (λ m. eqb m i && (((eqb (q j % 2) 1 && eqb (n j) 0) && (o ∙ now) j) && ltb i 31)) (p j))
+      ∙ (λ j.
+      raised (λ m. eqb m i && (((eqb (q j % 2) 1 && eqb (n j) 0) && carries (overflowWidth s i) (v j)) && ltb i 31)) (p j))
       ∙ raised-ext _ (flagged i) (λ m. eqb m i && carried i)
       (λ m l. ap (λ b. eqb m i && b) (last-first (added e mask i) (carries _ (getD c i 0)) (ltb i 31)))
       ∙ raised-on _ ovs _
       ∙ raised-ext _ ovs (λ m. ltb m (i + 1) && carried m) (λ m l. next-one carried i m)
-    where
-      now : carries (width long) y ≡ carries (width (s .features .p5 && longBit s i)) (getD c i 0)
-      now = λ j. carries (width (w j)) (v j)
 
   -- with no bit left
   pub flags-early : (i : ℕ) → 0 ≡ mask / 2 ^ i → flagged i ≡ raised carried ovs

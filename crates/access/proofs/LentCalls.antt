@@ -5,14 +5,15 @@ use mathlib.Core.Path.{_≡_, refl, sym, _∙_, ap}
 use borrow.Fn.World.{World}
 use Rattle.machine.specs.Machine.{withCounters, withInstructions, withOvs}
 use Rattle.rules.specs.Step.{step}
-use Rattle.access.specs.Calls.{Obeyed, Reference, to, MayGive, CallsNoninterference}
+use Rattle.access.specs.Calls.{Obeyed, Reference, to, MayGive, CallsRun, CallsNoninterference}
 use Rattle.access.specs.Lent.{Lent}
-use Rattle.access.proofs.Calls.{asked, said, stated, any, Exact, exact-noninterference}
+use Rattle.access.proofs.Calls.{asked, said, stated, any, Exact, exact-calls-run, exact-noninterference}
 use Rattle.access.proofs.Whole.{whole}
 use Rattle.access.proofs.lent as lent′
 
 -- a call of `access::lent` with the parts of a record, its counters and its event numbers by any two references: an answer, an
--- instruction counter, and counters behind the reference at its return, of which the contract holds, as the source states it.
+-- instruction counter, overflow flags, and counters behind the reference at its return, of which the contract holds, as the
+-- source states it.
 -- The record afterwards has the new counters, the new instruction counter and the new overflow flags; the rest of it stayed with
 -- the caller.
 abbrev pub Call : World → MayGive
@@ -40,6 +41,10 @@ call-exact m =
           let l : Lent (step w x r) _ _ = record { answer = refl; instructions = refl; ovs = refl; counters = refl } in
           (any, any, sym (ap (λ o. o .machine) (whole w x r _ _ l)), λ g s. stated m (Lent (step w x r) _ _) l s);
     }
+
+-- the calls of `access::lent` answer and leave what `run` says
+pub calls-are-run : (m : World) → CallsRun (Call m)
+calls-are-run m = exact-calls-run (Call m) (call-exact m)
 
 -- demand 3 of the calls of `access::lent`
 pub calls-noninterference : (m : World) → CallsNoninterference (Call m)

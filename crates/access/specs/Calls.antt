@@ -19,7 +19,7 @@ use Rattle.machine.specs.declared.Settings.{Settings}
 use Rattle.machine.specs.Machine.{withLevel}
 use Rattle.rules.specs.Isolation.{SameExcept, Kept, Named, Start, fromLevels, fromHpmn, withoutP, instructionCounter}
 use Rattle.rules.specs.Isolation.{hpmnHides, pmuacrHides, f0Hides}
-use Rattle.rules.specs.Step.{Access}
+use Rattle.rules.specs.Step.{Access, run}
 
 -- MODEL M10: an assertion of the logic, in the model m of the logic and of the machine, holds of some resource. Where it
 -- states a plain fact, the fact is true
@@ -61,6 +61,14 @@ pub data Calls (call : MayGive) : List Access → Machine → List Answer → Ma
       → call (a .word) (a .operand) (withLevel (a .level) r) answer left
       → Calls call rest left answers after
       → Calls call (a ∷ rest) r (answer ∷ answers) after
+
+-- MODEL M10: a run of calls answers and leaves what the list, run by the definition, does. So what is claimed of `run`, as
+-- MODEL M11 to M13 are, holds of calls of the code
+abbrev pub CallsRun : MayGive → Type 1
+CallsRun call =
+    (accesses : List Access) (r after : Machine) (answers : List Answer)
+    → Calls call accesses r answers after
+    → (answers ≡ run accesses r .answers) × (after ≡ run accesses r .machine)
 
 -- MODEL M5, M6 and M10: what `Isolated` of specs/Isolation says of `run`, of two runs of calls: their answers are equal, so
 -- are the records after them but for the counters named, and each run has kept those

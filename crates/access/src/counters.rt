@@ -5,7 +5,7 @@ ghost use mathlib.Core.Path.{_≡_};
 ghost use Prim.Native.Nat.{_%_, _^_};
 ghost use lib.Dec.{eqb, ltb};
 ghost use lib.ListN.{getD, set};
-ghost use Rattle.rules.specs.Overflow.{width, plusOne, carries, longBit, raised};
+ghost use Rattle.rules.specs.Overflow.{width, plusOne, carries, longBit, overflowWidth, raised};
 ghost use Rattle.rules.specs.Apply.{mapFrom, incremented, overflows};
 use machine::Settings;
 
@@ -84,6 +84,17 @@ fn with_flag(ovs: u64, i: usize, on: bool) -> u64
     ovs % 0x200000000
 }
 
+// The overflow flags after event counter i, which held y, took an increment or did not. Few increments carry out of the lower
+// half, and the others are soon done.
+fn flagged(ovs: u64, s: Settings, i: usize, on: bool, y: u64) -> u64
+    ensures { λ r. ⌜ r ≡ raised (λ m. eqb m i && ((on && carries (overflowWidth s i) y) && ltb i 31)) ovs ⌝ }
+{
+    if on & (y % 0x100000000 == 0xFFFFFFFF) {
+        return with_flag(ovs, i, carries(long_at(s, i), y));
+    }
+    ovs % 0x200000000
+}
+
 // The software increment, which returns the overflow flags. Bits of the mask are taken from the lowest on, until none is left.
 pub fn increment(counters: &mut [u64], events: &[u16], s: Settings, mask: u64, ovs: u64) -> u64
     ensures { λ r. ⌜ (r ≡ raised (λ m. overflows s (now (events .entry)) mask m (getD (now (counters .entry)) m 0)) ovs)
@@ -100,7 +111,7 @@ pub fn increment(counters: &mut [u64], events: &[u16], s: Settings, mask: u64, o
         let on = (rest % 2 == 1) & (event(events, i) == 0);
         let y = counters[i];
         counters[i] = incremented(s.features.p5, on, y);
-        flags = with_flag(flags, i, on & carries(long_at(s, i), y));
+        flags = flagged(flags, s, i, on, y);
         rest = rest / 2;
         i += 1;
     }

@@ -2,8 +2,8 @@
 -- call is the contract of `in_place::step`, as the check takes it from the source: were it weaker, `call-exact` would be refused.
 use mathlib.Core.Path.{refl}
 use borrow.Fn.World.{World}
-use Rattle.access.specs.Calls.{Obeyed, Reference, to, MayGive, CallsNoninterference}
-use Rattle.access.proofs.Calls.{asked, said, stated, any, OfStep, Exact, exact-noninterference}
+use Rattle.access.specs.Calls.{Obeyed, Reference, to, MayGive, CallsRun, CallsNoninterference}
+use Rattle.access.proofs.Calls.{asked, said, stated, any, OfStep, Exact, exact-calls-run, exact-noninterference}
 use Rattle.in_place.proofs.step as step′
 
 -- a call of `in_place::step`, with any reference: an answer, and a record behind the reference at its return, of which the
@@ -26,6 +26,10 @@ call-exact m =
       only = λ w x r answer after c. said m (OfStep w x r answer after) (c .1 tt (asked m));
       may = λ w x r. (any, λ g s. stated m (OfStep w x r _ _) (refl, refl) s);
     }
+
+-- the calls of `in_place::step` answer and leave what `run` says
+pub calls-are-run : (m : World) → CallsRun (Call m)
+calls-are-run m = exact-calls-run (Call m) (call-exact m)
 
 -- demand 3 of the calls of `in_place::step`
 pub calls-noninterference : (m : World) → CallsNoninterference (Call m)

@@ -138,7 +138,8 @@ wide-stays d r n =
     (narrow-stays d r))
 
 -- the overflow flags stay within their field
-pub ovs-stay-within : (d : Decision) (r : Machine) → exceeds (r .ovs) 0x37 ≡ false → exceeds (apply d r .machine .ovs) 0x37 ≡ false
+pub ovs-stay-within :
+    (d : Decision) (r : Machine) → exceeds (r .ovs) 0x37 ≡ false → exceeds (apply d r .machine .ovs) 0x37 ≡ false
 unfolding apply
 ovs-stay-within (Says a) r e = e
 ovs-stay-within (Read p rt) r e = e

@@ -1,4 +1,4 @@
--- No access reads or clears an overflow flag, and accesses set flags by increments alone: the claims of
+-- No access reads or clears an overflow flag, and a new flag is that of a counter that went up: the claims of
 -- specs/OverflowClaims.antt, each by what one decision does and an induction over the list.
 use Prim.Native.Nat.{ℕ, _<_, _≤_}
 use mathlib.Core.Bool.{Bool, true, false, _&&_, _||_, or-true, false≢true}
@@ -22,10 +22,10 @@ use Rattle.rules.specs.declared.Decision.{Decision}
 use Rattle.rules.specs.declared.Decision.the-variants.{Says, Read, Write, Add}
 use Rattle.rules.specs.declared.Place.the-variants.{Counter, Instructions}
 use Rattle.rules.specs.Overflow.{flagBits, raised, carries, overflowWidth}
-use Rattle.rules.specs.Apply.{added, apply}
+use Rattle.rules.specs.Apply.{added, overflows, apply}
 use Rattle.rules.specs.Step.{Access, decide, step, access, run}
 use Rattle.rules.specs.Isolation.{Start}
-use Rattle.rules.specs.OverflowClaims.{NoneCleared, SetByIncrementsAlone, addsTo, incrementedBy, incrementedIn}
+use Rattle.rules.specs.OverflowClaims.{NoneCleared, NewFlagsByIncrements, addsTo, incrementedBy, incrementedIn}
 use Rattle.rules.specs.OverflowClaims.{AlikeButOvs, OverflowClaims}
 use Rattle.rules.proofs.Applied.{ovs-stay-within}
 use Rattle.rules.proofs.Flags.{raised-bit, raised-keeps, raised-lt}
@@ -70,11 +70,11 @@ set-newly (Add mask) r m n e =
     let both = and-left (below && adds) (carries (overflowWidth (r .settings) m) (getD (r .counters) m 0)) f in
     (omega (arith, ltb-true m 31 (and-left below adds both)), and-right below adds both)
 
-pub increments-alone : SetByIncrementsAlone
+pub new-flags : NewFlagsByIncrements
 unfolding run access step
-increments-alone r [] m n e = absurd (false≢true (sym n ∙ e))
-increments-alone r (a ∷ rest) m n e =
-    go (bit m (access a r .machine .ovs)) refl (λ t. increments-alone (access a r .machine) rest m t e)
+new-flags r [] m n e = absurd (false≢true (sym n ∙ e))
+new-flags r (a ∷ rest) m n e =
+    go (bit m (access a r .machine .ovs)) refl (λ t. new-flags (access a r .machine) rest m t e)
   where
     go :
         (b : Bool) → bit m (access a r .machine .ovs) ≡ b
@@ -104,6 +104,19 @@ blind-rest (Write (Counter m) x) r = refl
 blind-rest (Write Instructions x) r = refl
 blind-rest (Add mask) r = refl
 
+-- a flag after the flags of f were set, from what it was
+raised-alike :
+    (f g : ℕ → Bool) → ((m : ℕ) → f m ≡ g m) → (y z m : ℕ) → bit m y ≡ bit m z → bit m (raised f y) ≡ bit m (raised g z)
+raised-alike f g q y z m e = go (ltb m flagBits) refl
+  where
+    go : (b : Bool) → ltb m flagBits ≡ b → bit m (raised f y) ≡ bit m (raised g z)
+    go true t =
+        let h = ltb-true m flagBits t in
+        raised-bit f y m h ∙ ap₂ _||_ e (q m) ∙ sym (raised-bit g z m h)
+    go false t =
+        let h = ltb-false m flagBits t in
+        bit-past {x = raised f y} flagBits m (raised-lt f y) h ∙ sym (bit-past {x = raised g z} flagBits m (raised-lt g z) h)
+
 module _ (r₁ r₂ : Machine) (e : withOvs 0 r₁ ≡ withOvs 0 r₂) where
   views-equal : exceeds (r₁ .ovs) 0x37 ≡ false → exceeds (r₂ .ovs) 0x37 ≡ false → viewOf r₁ ≡ viewOf r₂
   unfolding viewOf
@@ -122,24 +135,38 @@ module _ (r₁ r₂ : Machine) (e : withOvs 0 r₁ ≡ withOvs 0 r₂) where
   rests-equal : (d : Decision) → withOvs 0 (apply d r₁ .machine) ≡ withOvs 0 (apply d r₂ .machine)
   rests-equal d = blind-rest d r₁ ∙ ap (λ r. withOvs 0 (apply d r .machine)) e ∙ sym (blind-rest d r₂)
 
+  -- a flag that is equal in both stays so: the same counters carry in both
+  flag-equal :
+      (d : Decision) (m : ℕ) → bit m (r₁ .ovs) ≡ bit m (r₂ .ovs)
+      → bit m (apply d r₁ .machine .ovs) ≡ bit m (apply d r₂ .machine .ovs)
+  unfolding apply
+  flag-equal (Says a) m q = q
+  flag-equal (Read p rt) m q = q
+  flag-equal (Write (Counter n) x) m q = q
+  flag-equal (Write Instructions x) m q = q
+  flag-equal (Add mask) m q =
+      raised-alike _ _ (λ n i. overflows (e i .settings) (e i .events) mask n (getD (e i .counters) n 0)) (r₁ .ovs) (r₂ .ovs) m q
+
 -- one access of two records that differ in the flags alone
-record Once (o₁ o₂ : Outcome) : Type 0 where
+record Once (r₁ r₂ : Machine) (o₁ o₂ : Outcome) : Type 0 where
   answer : o₁ .answer ≡ o₂ .answer
   rest : withOvs 0 (o₁ .machine) ≡ withOvs 0 (o₂ .machine)
+  flags : (m : ℕ) → bit m (r₁ .ovs) ≡ bit m (r₂ .ovs) → bit m (o₁ .machine .ovs) ≡ bit m (o₂ .machine .ovs)
   fits₁ : exceeds (o₁ .machine .ovs) 0x37 ≡ false
   fits₂ : exceeds (o₂ .machine .ovs) 0x37 ≡ false
 
 once :
     (w x : ℕ) (r₁ r₂ : Machine) → exceeds (r₁ .ovs) 0x37 ≡ false → exceeds (r₂ .ovs) 0x37 ≡ false
     → withOvs 0 r₁ ≡ withOvs 0 r₂
-    → Once (step w x r₁) (step w x r₂)
+    → Once r₁ r₂ (step w x r₁) (step w x r₂)
 unfolding step
 once w x r₁ r₂ p q e =
     let d = decide (viewOf r₁) w x in
-    subst (λ (v : View). Once (apply d r₁) (apply (decide v w x) r₂)) (views-equal r₁ r₂ e p q)
+    subst (λ (v : View). Once r₁ r₂ (apply d r₁) (apply (decide v w x) r₂)) (views-equal r₁ r₂ e p q)
     (record {
       answer = answers-equal r₁ r₂ e d;
       rest = rests-equal r₁ r₂ e d;
+      flags = flag-equal r₁ r₂ e d;
       fits₁ = ovs-stay-within d r₁ p;
       fits₂ = ovs-stay-within d r₂ q;
     })
@@ -147,13 +174,17 @@ once w x r₁ r₂ p q e =
 none-read-from :
     (accesses : List Access) (r₁ r₂ : Machine) → exceeds (r₁ .ovs) 0x37 ≡ false → exceeds (r₂ .ovs) 0x37 ≡ false
     → withOvs 0 r₁ ≡ withOvs 0 r₂
-    → AlikeButOvs (run accesses r₁) (run accesses r₂)
+    → AlikeButOvs (r₁ .ovs) (r₂ .ovs) (run accesses r₁) (run accesses r₂)
 unfolding run access
-none-read-from [] r₁ r₂ p q e = record { answers = refl; same = e }
+none-read-from [] r₁ r₂ p q e = record { answers = refl; same = e; flags = λ m f. f }
 none-read-from (a ∷ rest) r₁ r₂ p q e =
     let o = once (a .word) (a .operand) (withLevel (a .level) r₁) (withLevel (a .level) r₂) p q (ap (withLevel (a .level)) e) in
     let i = none-read-from rest _ _ (o .fits₁) (o .fits₂) (o .rest) in
-    record { answers = ap₂ _∷_ (o .answer) (i .answers); same = i .same }
+    record {
+      answers = ap₂ _∷_ (o .answer) (i .answers);
+      same = i .same;
+      flags = λ m f. i .flags m (o .flags m f);
+    }
 
 start-fits : {r : Machine} → Start r → exceeds (r .ovs) 0x37 ≡ false
 unfolding viewOf
@@ -164,5 +195,5 @@ overflow-claims =
     record {
       unread = λ r₁ r₂ accesses s₁ s₂ e. none-read-from accesses r₁ r₂ (start-fits s₁) (start-fits s₂) e;
       uncleared = none-cleared;
-      increments = increments-alone;
+      increments = new-flags;
     }

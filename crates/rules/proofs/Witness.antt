@@ -106,6 +106,6 @@ instructions accesses l =
       ovs = refl;
     })
 
-flags : (accesses : List Access) → AlikeButOvs (run accesses one) (run accesses four)
+flags : (accesses : List Access) → AlikeButOvs (one .ovs) (four .ovs) (run accesses one) (run accesses four)
 unfolding one four largest set store storeSettings storeFeatures storeMdcr2 storePmuacr setAll usual
 flags accesses = overflow-claims .unread one four accesses start-one start-four refl

@@ -1,9 +1,7 @@
 -- The worked examples hold: for each, the definitions give the answers and the record that it says. Computed.
-use Prim.Native.Nat.{ℕ}
 use mathlib.Core.Bool.{true, _&&_}
 use mathlib.Core.List.{List, map, _++_}
 use mathlib.Core.Path.{_≡_, refl}
-use Rattle.answer.specs.declared.Answer.{Answer}
 use Rattle.bits.specs.Bits.{fromBits}
 use Rattle.fields.specs.Largest.{largest}
 use Rattle.fields.specs.Set.{set, setAll}
@@ -34,7 +32,7 @@ use Rattle.rules.specs.ExamplesIcntr.{icntrExamples}
 use Rattle.rules.specs.ExamplesPermitted.{permittedExamples}
 use Rattle.rules.specs.ExamplesExternal.{externalExamples}
 use Rattle.rules.specs.ExamplesOverflow.{overflowExamples}
-use Rattle.rules.specs.ExamplesState.{stateExamples, directOvs, directActual, directExpected}
+use Rattle.rules.specs.ExamplesState.{stateExamples, ovsLimits, withLimits, limitsActual, limitsExpected}
 use Rattle.rules.specs.Further.{further}
 
 -- the examples of a list hold
@@ -64,13 +62,13 @@ misreadings-hold = hold .1
 pub further-hold : Hold further
 further-hold = hold .2
 
--- MODEL R10: overflow flags that no set command stores
-pub direct-hold : map (λ (row : ℕ × Answer). directActual (row .0)) directOvs ≡ map directExpected directOvs
+-- MODEL R4 and R10: overflow flags at and beyond their largest
+pub limits-hold : map limitsActual ovsLimits ≡ map limitsExpected ovsLimits
 unfolding
     largest set viewOf tooLarge refusals verdictOf store storeSettings storeFeatures storeMdcr2 storePmuacr
     named register syndrome decode written counterRules counterOrder pmevcntrStop placeAccess decideRegister decide apply step
-    perform setAll usual directOvs directActual directExpected
-direct-hold = refl
+    perform setAll usual ovsLimits withLimits limitsActual limitsExpected
+limits-hold = refl
 
 -- every set command of the examples, and of what they start from, is one that is not refused
 pub settings-valid : valid usualSettings && allValid (worked ++ misreadings ++ further) ≡ true

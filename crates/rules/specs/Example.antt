@@ -2,13 +2,12 @@
 use Prim.Native.Nat.{ℕ}
 use mathlib.Core.Bool.{Bool, true, not, _&&_}
 use mathlib.Core.List.{List, [], _∷_, _++_, map}
-use lib.Dec.{ltb}
 use Rattle.answer.specs.declared.Answer.{Answer}
 use Rattle.answer.specs.declared.Level.{Level}
 use Rattle.machine.specs.declared.Machine.{Machine}
 use Rattle.machine.specs.declared.Outcome.{Outcome}
 use Rattle.machine.specs.Machine.{fresh, withLevel}
-use Rattle.fields.specs.Largest.{largest, isField}
+use Rattle.fields.specs.Largest.{isField, exceeds}
 unfoldable pub use Rattle.fields.specs.Set.{setAll}
 use Rattle.rules.specs.Step.{step, Run}
 use Rattle.rules.specs.External.{externalRead, externalWrite, tick}
@@ -46,7 +45,7 @@ performAll (m ∷ rest) r =
 -- MODEL P0: none of these set commands is refused
 unfoldable pub valid : List (ℕ × ℕ) → Bool
 valid [] = true
-valid (s ∷ rest) = isField (s .0) && not (ltb (largest (s .0)) (s .1)) && valid rest
+valid (s ∷ rest) = isField (s .0) && not (exceeds (s .1) (s .0)) && valid rest
 
 -- MODEL P0: none of the examples' set commands is refused
 unfoldable pub allValid : List Example → Bool

@@ -5,7 +5,7 @@ use Rattle.answer.specs.declared.Answer.{Answer}
 use Rattle.rules.specs.Example.{Example, shows, answers, changes}
 use Rattle.rules.specs.Example.Action.{read, write, ticks}
 
--- MODEL P12: for E1 to E8, K1 and K2
+-- MODEL P12: for E1 to E8 and K1 to K3
 unfoldable pub externalExamples : List Example
 externalExamples =
     -- MODEL E1: other offsets, before the locks

@@ -5,7 +5,7 @@ use Rattle.answer.specs.declared.Answer.{Answer}
 use Rattle.rules.specs.Example.{Example, shows, answers, changes, swinc, msr3}
 use Rattle.rules.specs.Example.Action.{read, write, ticks}
 
--- MODEL P12: for G11 to G13, K3, and E6 and E10 to E12 of the overflow flags. N is 6 and HPMN 4 (MODEL P0)
+-- MODEL P12: for G11 to G13 and K3, and for E2 to E4, E6 and E10 to E12 at C80 and CC0. N is 6 and HPMN 4 (MODEL P0)
 unfoldable pub overflowExamples : List Example
 overflowExamples =
     -- MODEL G11: with p5 and LP 0 at 32 bits, where the counter goes on, and at each carry out of the lower half; without a
@@ -50,20 +50,25 @@ overflowExamples =
     (swinc 7)
     ((0x60, 0x100000000) ∷ (0x61, 8) ∷ (0x62, 0x100000000) ∷ (0x37, 0x100000047) ∷ [])
     ∷ changes ((0x37, 1) ∷ (0x60, 0xFFFFFFFF) ∷ []) 1 (swinc 1) ((0x60, 0x100000000) ∷ [])
-    -- MODEL G13: no flag by a counter that does not go up: another event number, at HPMN from level 1, held back by PMUACR, from N
-    -- on
+    -- MODEL G13: no flag by a counter that does not go up: another event number, at HPMN from level 1, held back by PMUACR, from
+    -- N on
     ∷ answers ((0x40, 1) ∷ (0x60, 0xFFFFFFFF) ∷ []) 1 (swinc 1) Answer.Ok
     ∷ answers ((0x64, 0xFFFFFFFF) ∷ []) 1 (swinc 0x10) Answer.Ok
     ∷ answers ((0x23, 1) ∷ (0x63, 0xFFFFFFFF) ∷ []) 0 (swinc 8) Answer.Ok
     ∷ answers ((0x66, 0xFFFFFFFF) ∷ []) 2 (swinc 0x40) Answer.Ok
-    -- MODEL G13: a counter that is written neither sets nor clears its flag
+    -- MODEL G13: a write of a counter neither sets nor clears its flag
+    ∷ changes ((0x63, 0xFFFFFFFF) ∷ []) 1 (msr3 0) ((0x63, 0) ∷ [])
     ∷ changes ((0x37, 8) ∷ (0x63, 0xFFFFFFFF) ∷ []) 1 (msr3 0) ((0x63, 0) ∷ [])
     -- MODEL K3: the tick, with LP 0 and with LP 1; not at 32 bits, and not where the counter stays
     ∷ changes ((0x37, 1) ∷ (0x03, 1) ∷ (0x34, 0x100000000) ∷ (0x7F, 0xFFFFFFFFFFFFFFFF) ∷ [])
     0
     (ticks false)
     ((0x7F, 0) ∷ (0x37, 0x100000001) ∷ [])
-    ∷ changes ((0x35, 1) ∷ (0x36, 1) ∷ (0x03, 1) ∷ (0x34, 0x100000000) ∷ (0x7F, 0xFFFFFFFF) ∷ [])
+    ∷ changes ((0x35, 1) ∷ (0x36, 1) ∷ (0x03, 1) ∷ (0x34, 0x100000000) ∷ (0x7F, 0xFFFFFFFFFFFFFFFF) ∷ [])
+    0
+    (ticks false)
+    ((0x7F, 0) ∷ (0x37, 0x100000000) ∷ [])
+    ∷ changes ((0x03, 1) ∷ (0x34, 0x100000000) ∷ (0x7F, 0xFFFFFFFF) ∷ [])
     0
     (ticks false)
     ((0x7F, 0x100000000) ∷ [])

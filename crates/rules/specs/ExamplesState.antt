@@ -1,11 +1,12 @@
--- Examples of the state refusals, as data.
+-- Examples of the state refusals, and of the overflow flags at their largest, as data.
 use Prim.Native.Nat.{ℕ}
 use mathlib.Core.Bool.{false}
 use mathlib.Core.List.{List, [], _∷_}
 use Rattle.answer.specs.declared.Answer.{Answer}
 use Rattle.answer.specs.declared.Level.the-variants.{El2}
 use Rattle.answer.specs.declared.Refusal.the-variants.{FieldTooLarge, LevelUnavailable, El2Unimplemented, HpmnAboveN, HpmnZero}
-use Rattle.answer.specs.declared.Refusal.the-variants.{CounterTooWide, TgeAtEl1, FeatureMissing}
+use Rattle.answer.specs.declared.Refusal.the-variants.{CounterTooWide, TgeAtEl1, FeatureMissing, ValueTooLarge}
+use Rattle.machine.specs.declared.Machine.{Machine}
 use Rattle.machine.specs.declared.Outcome.{Outcome}
 use Rattle.machine.specs.Machine.{withLevel, withOvs}
 use Rattle.machine.specs.Outcome.{says}
@@ -46,20 +47,24 @@ stateExamples =
     ∷ answers ((0x27, 7) ∷ (0x25, 1) ∷ []) 1 mrs3 (Answer.Refused HpmnAboveN)
     ∷ []
 
--- MODEL R10 and F22: overflow flags that only a direct caller's record can have, beside the largest that a set command stores,
--- and what MRS of counter 3, which holds 9, then answers
-unfoldable pub directOvs : List (ℕ × Answer)
-directOvs =
-    (0x17FFFFFFF, gives 9)
-    ∷ (0x80000000, Answer.Refused FieldTooLarge)
-    ∷ (0x180000000, Answer.Refused FieldTooLarge)
-    ∷ (0x200000000, Answer.Refused FieldTooLarge)
+-- MODEL R4, R10 and F22: overflow flags at and beyond their largest: what a set command of them answers, and what MRS of
+-- counter 3, which holds 9, answers on a record that has them all the same, as only a direct caller's can
+unfoldable pub ovsLimits : List (ℕ × Answer × Answer)
+ovsLimits =
+    (0x17FFFFFFF, Answer.Ok, gives 9)
+    ∷ (0x80000000, Answer.Refused ValueTooLarge, Answer.Refused FieldTooLarge)
+    ∷ (0x180000000, Answer.Refused ValueTooLarge, Answer.Refused FieldTooLarge)
+    ∷ (0x200000000, Answer.Refused ValueTooLarge, Answer.Refused FieldTooLarge)
     ∷ []
 
--- MODEL R0 and R10: what the definitions give for these flags, with the record afterwards
-unfoldable pub directActual : ℕ → Outcome
-directActual ovs = perform mrs3 (withOvs ovs (withLevel 1 (set 0x63 9 usual .machine)))
+-- MODEL P0: the record of these examples, with those overflow flags
+unfoldable pub withLimits : ℕ → Machine
+withLimits ovs = withOvs ovs (withLevel 1 (set 0x63 9 usual .machine))
+
+-- MODEL R4 and R10: what the definitions give: the set command's answer, and the access's with the record afterwards
+unfoldable pub limitsActual : ℕ × Answer × Answer → Answer × Outcome
+limitsActual row = (set 0x37 (row .0) usual .answer, perform mrs3 (withLimits (row .0)))
 
 -- MODEL R0: what the table says, the record as it was
-unfoldable pub directExpected : ℕ × Answer → Outcome
-directExpected row = says (row .1) (withOvs (row .0) (withLevel 1 (set 0x63 9 usual .machine)))
+unfoldable pub limitsExpected : ℕ × Answer × Answer → Answer × Outcome
+limitsExpected row = (row .1, says (row .2) (withLimits (row .0)))

@@ -1,5 +1,5 @@
--- External accesses and the tick. What each offset's register shows and sets; how far an access at an offset gets, where each
--- test stands once; what is then to be done, in one place for all three; and the doing.
+-- External accesses and the tick. What each offset's register shows, sets and clears; how far an access at an offset gets, where
+-- each test stands once; what a read, a write or a tick is then to do, in one place; and the doing.
 use Prim.Native.Nat.{ℕ}
 use mathlib.Core.Bool.{Bool, true, false, cond, not, _&&_, _||_}
 use mathlib.Core.List.{List, [], _∷_}
@@ -130,14 +130,14 @@ enact (SetOvs mask) r = done (withOvs (raised (λ m. bit m mask) (r .ovs)) r)
 enact Count r =
     done (withOvs (ovsCounted (r .instructions) (r .ovs)) (withInstructions (plusOne 64 (r .instructions)) r))
 
--- MODEL E7: the external read at an offset
+-- MODEL E7 and E10: the external read at an offset
 unfoldable pub externalRead : ℕ → Machine → Outcome
 externalRead offset r = enact (judge (viewOf r) (Read offset)) r
 
--- MODEL E8: the external write of x at an offset
+-- MODEL E8, E11 and E12: the external write of x at an offset
 unfoldable pub externalWrite : ℕ → ℕ → Machine → Outcome
 externalWrite offset x r = enact (judge (viewOf r) (Write offset x)) r
 
--- MODEL K1: the tick, while counting is prohibited or not
+-- MODEL K1 to K3: the tick, while counting is prohibited or not
 unfoldable pub tick : Bool → Machine → Outcome
 tick prohibited r = enact (judge (viewOf r) (Tick prohibited)) r

@@ -1,5 +1,5 @@
--- The rules on accesses in the order of docs/MODEL.md: the instruction word, the orders of traps, permitted accesses, the step,
--- external accesses and the tick, examples, and the claim of isolation.
+-- The rules on accesses in the order of docs/MODEL.md: the instruction word, the orders of traps, permitted accesses, overflow,
+-- the step, external accesses and the tick, examples, the claim of isolation, and those on the overflow flags.
 pub mod Word
 pub mod Traps
 pub mod Permitted

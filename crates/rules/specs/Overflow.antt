@@ -17,8 +17,8 @@ plusOne k y = (y + 1) % 2 ^ k
 abbrev pub carries : ℕ → ℕ → Bool
 carries k y = leb (2 ^ k) (y % 2 ^ k + 1)
 
--- MODEL G12: event counter m is in the second range, that of EL2: at or above HPMN with EL2 implemented. Rule 5 and the ignored
--- bits of PMSWINC (`atOrAboveHpmn`) ask whether EL2 is enabled
+-- MODEL G12: event counter m is in the second range: from HPMN on, where EL2 is implemented. T5 and the ignored bits of PMSWINC
+-- (`atOrAboveHpmn`) ask whether EL2 is enabled
 abbrev pub inSecondRange : Settings → ℕ → Bool
 inSecondRange s m = s .features .el2 && leb (s .mdcr2 .hpmn) m
 
@@ -30,7 +30,7 @@ longBit s m = cond (inSecondRange s m) (s .mdcr2 .hlp) (s .pmcr .lp)
 abbrev pub overflowWidth : Settings → ℕ → ℕ
 overflowWidth s m = width (s .features .p5 && longBit s m)
 
--- MODEL F22: the overflow flags and the counter enables have 33 bits: the event counters', bit 31, and the instruction counter's
+-- MODEL F12 and F22: counter enables and overflow flags stand in 33 bits, of which bit 31 is the enables' alone
 abbrev pub flagBits : ℕ
 flagBits = 33
 

@@ -14,19 +14,22 @@ use Rattle.rules.specs.Apply.{added}
 use Rattle.rules.specs.Step.{Access, Run, decide, access, run}
 use Rattle.rules.specs.Isolation.{Start}
 
--- MODEL M11: two runs answer alike, and leave records that agree on the level and on every field but the overflow flags
-pub record AlikeButOvs (a b : Run) : Type 0 where
+-- MODEL M11: two runs, from records with the overflow flags o₁ and o₂, answer alike, leave records that agree on the level and on
+-- every field but the overflow flags, and leave equal each flag that was equal
+pub record AlikeButOvs (o₁ o₂ : ℕ) (a b : Run) : Type 0 where
   pub answers : a .answers ≡ b .answers
   pub same : withOvs 0 (a .machine) ≡ withOvs 0 (b .machine)
+  pub flags : (m : ℕ) → bit m o₁ ≡ bit m o₂ → bit m (a .machine .ovs) ≡ bit m (b .machine .ovs)
 
--- MODEL M11: no access reads a flag: two start records that differ in the overflow flags alone answer every list alike
+-- MODEL M11: no access reads a flag: two start records that differ in the overflow flags alone answer every list alike, and no
+-- flag tells of another
 abbrev pub NoneRead : Type 0
 NoneRead =
     (r₁ r₂ : Machine) (accesses : List Access)
     → Start r₁
     → Start r₂
     → withOvs 0 r₁ ≡ withOvs 0 r₂
-    → AlikeButOvs (run accesses r₁) (run accesses r₂)
+    → AlikeButOvs (r₁ .ovs) (r₂ .ovs) (run accesses r₁) (run accesses r₂)
 
 -- MODEL M12: no access clears a flag: one that is 1 before a list is 1 after it
 abbrev pub NoneCleared : Type 0
@@ -53,8 +56,8 @@ incrementedIn [] r m = false
 incrementedIn (a ∷ rest) r m = incrementedBy a r m || incrementedIn rest (access a r .machine) m
 
 -- MODEL M13: a flag that is 0 before a list and 1 after it is that of an event counter, and the counter was incremented in it
-abbrev pub SetByIncrementsAlone : Type 0
-SetByIncrementsAlone =
+abbrev pub NewFlagsByIncrements : Type 0
+NewFlagsByIncrements =
     (r : Machine) (accesses : List Access) (m : ℕ)
     → bit m (r .ovs) ≡ false
     → bit m (run accesses r .machine .ovs) ≡ true
@@ -64,4 +67,4 @@ SetByIncrementsAlone =
 pub record OverflowClaims : Type 0 where
   pub unread : NoneRead
   pub uncleared : NoneCleared
-  pub increments : SetByIncrementsAlone
+  pub increments : NewFlagsByIncrements

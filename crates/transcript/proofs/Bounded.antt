@@ -83,7 +83,8 @@ module _ (r : Machine) (b : tooLarge (viewOf r) ≡ false) where
   unfolding largest
   enables-bounded x =
       let e = enablesWritten (r .settings) x in
-      store-bounded 0x34 e (le-ltb (largest 0x34) e (omega (arith, raised-lt (λ m. bit m (enablesShown (r .settings) x)) (r .settings .cnten))))
+      let below = raised-lt (λ m. bit m (enablesShown (r .settings) x)) (r .settings .cnten) in
+      store-bounded 0x34 e (le-ltb (largest 0x34) e (omega (arith, below)))
 
   -- overflow flags that stay within their field
   with-ovs : (o : ℕ) → (exceeds (r .ovs) 0x37 ≡ false → exceeds o 0x37 ≡ false) → tooLarge (viewOf (withOvs o r)) ≡ false

@@ -1,4 +1,4 @@
-//! MODEL F2 to F16: the field numbers, under Arm's names.
+//! MODEL F2 to F16, F21 and F22: the field numbers, under Arm's names.
 
 pub const PMUV3: u8 = 0x00;
 pub const P5: u8 = 0x01;

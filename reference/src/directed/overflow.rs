@@ -1,6 +1,6 @@
-//! Overflow flags by counting: which carry sets which flag, with LP, HLP and p5
-//! on each side of HPMN; what does not count and sets none; ticks. The flags
-//! are read at PMOVSCLR, whose own rules are in pmovs.rs.
+//! MODEL G11 to G13 and K3: overflow flags by counting. Which carry sets which
+//! flag, with LP, HLP and p5 on each side of HPMN; what does not count and sets
+//! none; ticks. The flags are read at PMOVSCLR, whose own rules are in pmovs.rs.
 
 use super::fields::*;
 use super::script::{Change, Script, PMOVSCLR, PMSWINC};

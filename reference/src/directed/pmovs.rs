@@ -1,6 +1,6 @@
-//! The external PMOVSCLR_EL0 and PMOVSSET_EL0: both read the overflow flags,
-//! one clears and the other sets those that are written as 1. Locks, the bits
-//! that exist, and the offsets beside them.
+//! MODEL E1 to E6 and E10 to E12: PMOVSCLR_EL0 and PMOVSSET_EL0. Both read the
+//! overflow flags, one clears and the other sets those that are written as 1.
+//! Locks, the bits that exist, and the offsets beside them.
 
 use super::fields::*;
 use super::script::{Change, Script, Switch, PMCNTENSET, PMOVSCLR, PMOVSSET};

@@ -22,7 +22,8 @@ returns-3 : tie.Need-returns-3
 unfolding apply
 returns-3 c =
     let at-d2 = c .before .before .before in
-    λ l. simp (at-d2 .d2 .given .1, c .enum-told .given .1) (record { answer = refl; instructions = refl; ovs = refl; counters = refl })
+    λ l. simp (at-d2 .d2 .given .1, c .enum-told .given .1)
+    (record { answer = refl; instructions = refl; ovs = refl; counters = refl })
 
 returns-4 : tie.Need-returns-4
 unfolding apply
@@ -37,7 +38,8 @@ returns-5 : tie.Need-returns-5
 unfolding apply
 returns-5 c =
     let at-d3 = c .before .before .before in
-    λ l. simp (at-d3 .d3 .given .1, c .enum-told2 .given .1) (record { answer = refl; instructions = refl; ovs = refl; counters = refl })
+    λ l. simp (at-d3 .d3 .given .1, c .enum-told2 .given .1)
+    (record { answer = refl; instructions = refl; ovs = refl; counters = refl })
 
 returns-6 : tie.Need-returns-6
 unfolding apply
@@ -45,7 +47,12 @@ returns-6 c =
     let at-increment = c .before .before in
     let at-d4 = at-increment .before .before .before in
     λ l. simp (at-d4 .d4 .given .1)
-    (record { answer = refl; instructions = refl; ovs = at-increment .increment .ensures .0; counters = at-increment .increment .ensures .1 })
+    (record {
+      answer = refl;
+      instructions = refl;
+      ovs = at-increment .increment .ensures .0;
+      counters = at-increment .increment .ensures .1;
+    })
 
 pub apply-spec : {M : Type 1} → statement M
 apply-spec =

@@ -6,7 +6,8 @@ use Rattle.external.proofs.ovs_counted.Tie as tie
 returns : tie.Need-returns
 returns c =
     let at-start = c .before .before in
-    simp (c .raised .ensures, c .before .part .ensures) (counted-flag (at-start .args .y) (at-start .args .ovs) (at-start .fits .y .fits))
+    simp (c .raised .ensures, c .before .part .ensures)
+    (counted-flag (at-start .args .y) (at-start .args .ovs) (at-start .fits .y .fits))
 
 pub ovs-counted-spec : {M : Type 1} → statement M
 ovs-counted-spec =

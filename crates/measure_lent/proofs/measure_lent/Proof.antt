@@ -65,7 +65,9 @@ returns : tie.Need-returns Inv-loop μ-loop
 returns c =
     let at-loop = c .before in
     let at-start = at-loop .before .before .before .before in
-    sym (summed-done (at-start .args .list .now) (at-start .args .x) (at-loop .loop .m) (c .loop-test .left) (at-loop .loop .inv .1)) ∙ at-loop .loop .inv .2
+    sym
+    (summed-done (at-start .args .list .now) (at-start .args .x) (at-loop .loop .m) (c .loop-test .left) (at-loop .loop .inv .1))
+    ∙ at-loop .loop .inv .2
 
 pub measure-lent-spec : {M : Type 1} → statement M
 measure-lent-spec =

@@ -24,7 +24,8 @@ abbrev μ-loop : tie.MeasureT-loop
 loop-holds : tie.Need-loop-holds Inv-loop μ-loop
 loop-holds c =
     let args = c .before .before .args in
-    (omega arith, refl, refl, omega arith, flags-start (args .s) (args .events .now) (args .mask) (args .counters .now) (args .ovs))
+    let flags = flags-start (args .s) (args .events .now) (args .mask) (args .counters .now) (args .ovs) in
+    (omega arith, refl, refl, omega arith, flags)
 
 same-length : tie.Need-same-length Inv-loop μ-loop
 same-length c = c .before .before .loop .inv .1
@@ -61,22 +62,22 @@ loop-less c = omega arith
 
 loop-again : tie.Need-loop-again Inv-loop μ-loop
 loop-again c =
-    let at-long-at = c .before .before in
-    let at-incremented = at-long-at .before in
-    let at-event = at-incremented .before .before in
+    let at-event = c .before .before .before in
     let at-loop = at-event .before .before .before in
     let at-start = at-loop .before .before .before in
     let args = at-start .args in
     let i = at-loop .loop .i in
     let rest = at-loop .loop .rest in
     let inv = at-loop .loop .inv in
-    let held = ap (λ l. getD l i 0) (inv .2) ∙ ahead (incremented (args .s .features .p5) (args .events .now) (args .mask)) i (args .counters .now) i (omega arith) in (
+    let add = incremented (args .s .features .p5) (args .events .now) (args .mask) in
+    let held = ap (λ l. getD l i 0) (inv .2) ∙ ahead add i (args .counters .now) i (omega arith) in (
       omega arith,
       simp length-set (inv .1),
-      turn _ _ _ _ i rest _ (at-loop .loop .counters) _ (inv .2) (inv .3) (at-event .event .ensures) (at-incremented .incremented .ensures),
+      turn _ _ _ _ i rest _ (at-loop .loop .counters) _ (inv .2) (inv .3) (at-event .event .ensures)
+          (c .before .incremented .ensures),
       half _ i rest (inv .3),
-      flag-turn (args .s) (args .events .now) (args .mask) (args .counters .now) (args .ovs) i rest _ _ _ _ (at-loop .loop .flags) _ (inv .4) (inv .3)
-          (at-event .event .ensures) held (at-long-at .long-at .ensures) (c .before .carries .ensures) (c .with-flag .ensures),
+      flag-turn (args .s) (args .events .now) (args .mask) (args .counters .now) (args .ovs) i rest _ _ (at-loop .loop .flags) _
+          (inv .4) (inv .3) (at-event .event .ensures) held (c .flagged .ensures),
     )
 
 same-length-2 : tie.Need-same-length-2 Inv-loop μ-loop
@@ -109,8 +110,6 @@ increment-spec =
     (λ c κs. tt)
     mul-counters
     slice-write-counters
-    (λ c κs. tt)
-    (λ c κs. tt)
     (λ c κs. tt)
     add-i
     loop-less

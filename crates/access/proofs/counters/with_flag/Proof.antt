@@ -22,8 +22,9 @@ shl-result c =
 returns : tie.Need-returns
 returns c =
     let at-start = c .before in
-    let below : at-start .args .i < 31 = ltb-true (at-start .args .i) 31 (and-right (at-start .args .on) (ltb (at-start .args .i) 31) (c .if1 .taken)) in
-    simp (one-shifted (at-start .args .i) (omega (arith, below)), c .if1 .taken) (raised-one (at-start .args .i) (at-start .args .ovs))
+    let i = at-start .args .i in
+    let below : i < 31 = ltb-true i 31 (and-right (at-start .args .on) (ltb i 31) (c .if1 .taken)) in
+    simp (one-shifted i (omega (arith, below)), c .if1 .taken) (raised-one i (at-start .args .ovs))
 
 returns-2 : tie.Need-returns-2
 returns-2 c =

@@ -38,7 +38,8 @@ returns : tie.Need-returns
 returns c =
     let at-below = c .before .before in
     let at-start = at-below .before in
-    simp (at-below .below .ensures, c .before .part .ensures, c .part2 .ensures) (sym (shown-sum (at-start .args .cycles) (at-start .args .s) (at-start .args .x)))
+    simp (at-below .below .ensures, c .before .part .ensures, c .part2 .ensures)
+    (sym (shown-sum (at-start .args .cycles) (at-start .args .s) (at-start .args .x)))
 
 pub shown-of-spec : {M : Type 1} → statement M
 shown-of-spec =

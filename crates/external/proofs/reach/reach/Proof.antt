@@ -13,14 +13,17 @@ use Rattle.external.proofs.reach.reach.Statement.{statement}
 use Rattle.external.proofs.reach.reach.Tie as tie
 
 -- a row of the table
-row : (writes : Bool) (offset : ℕ) (s : Settings) {x : Reach} → Picks Other x (offsets writes offset s) → x ≡ reach writes offset s
+row :
+    (writes : Bool) (offset : ℕ) (s : Settings) {x : Reach} → Picks Other x (offsets writes offset s)
+    → x ≡ reach writes offset s
 unfolding reach
 row writes offset s p = picked (offsets writes offset s) p
 
 returns : tie.Need-returns
 returns c =
     let at-start = c .before .before in
-    row (at-start .args .writes) (at-start .args .offset) (at-start .args .s) (held (eq-eqb _ _ (c .before .match .keys1)) (c .unless-barred .ensures))
+    row (at-start .args .writes) (at-start .args .offset) (at-start .args .s)
+    (held (eq-eqb _ _ (c .before .match .keys1)) (c .unless-barred .ensures))
 
 returns-2 : tie.Need-returns-2
 returns-2 c =

@@ -28,7 +28,8 @@ returns-4 c =
     let at-if2 = c .before .before in
     let at-if1 = at-if2 .before in
     let at-start = at-if1 .before in
-    picked (kinds (at-start .args .f)) (at-if1 .if1 .left ↓ at-if2 .if2 .left ↓ c .before .if3 .left ↓ held (c .if4 .taken) refl)
+    picked (kinds (at-start .args .f))
+    (at-if1 .if1 .left ↓ at-if2 .if2 .left ↓ c .before .if3 .left ↓ held (c .if4 .taken) refl)
 
 returns-5 : tie.Need-returns-5
 unfolding largest
@@ -37,7 +38,8 @@ returns-5 c =
     let at-if2 = at-if3 .before in
     let at-if1 = at-if2 .before in
     let at-start = at-if1 .before in
-    picked (kinds (at-start .args .f)) (at-if1 .if1 .left ↓ at-if2 .if2 .left ↓ at-if3 .if3 .left ↓ c .before .if4 .left ↓ held (c .if5 .taken) refl)
+    picked (kinds (at-start .args .f))
+    (at-if1 .if1 .left ↓ at-if2 .if2 .left ↓ at-if3 .if3 .left ↓ c .before .if4 .left ↓ held (c .if5 .taken) refl)
 
 returns-6 : tie.Need-returns-6
 unfolding largest
@@ -47,7 +49,9 @@ returns-6 c =
     let at-if2 = at-if3 .before in
     let at-if1 = at-if2 .before in
     let at-start = at-if1 .before in
-    picked (kinds (at-start .args .f)) (at-if1 .if1 .left ↓ at-if2 .if2 .left ↓ at-if3 .if3 .left ↓ at-if4 .if4 .left ↓ c .before .if5 .left ↓ held (c .if6 .taken) refl)
+    picked (kinds (at-start .args .f))
+    (at-if1 .if1 .left ↓ at-if2 .if2 .left ↓ at-if3 .if3 .left ↓ at-if4 .if4 .left ↓ c .before .if5 .left ↓
+    held (c .if6 .taken) refl)
 
 returns-7 : tie.Need-returns-7
 unfolding largest
@@ -58,7 +62,9 @@ returns-7 c =
     let at-if2 = at-if3 .before in
     let at-if1 = at-if2 .before in
     let at-start = at-if1 .before in
-    picked (kinds (at-start .args .f)) (at-if1 .if1 .left ↓ at-if2 .if2 .left ↓ at-if3 .if3 .left ↓ at-if4 .if4 .left ↓ at-if5 .if5 .left ↓ c .before .if6 .left ↓ held (c .if7 .taken) refl)
+    picked (kinds (at-start .args .f))
+    (at-if1 .if1 .left ↓ at-if2 .if2 .left ↓ at-if3 .if3 .left ↓ at-if4 .if4 .left ↓ at-if5 .if5 .left ↓
+    c .before .if6 .left ↓ held (c .if7 .taken) refl)
 
 returns-8 : tie.Need-returns-8
 unfolding largest
@@ -69,7 +75,9 @@ returns-8 c =
     let at-if2 = at-if3 .before in
     let at-if1 = at-if2 .before in
     let at-start = at-if1 .before in
-    picked (kinds (at-start .args .f)) (at-if1 .if1 .left ↓ at-if2 .if2 .left ↓ at-if3 .if3 .left ↓ at-if4 .if4 .left ↓ at-if5 .if5 .left ↓ c .before .if6 .left ↓ c .if7 .left ↓ none refl)
+    picked (kinds (at-start .args .f))
+    (at-if1 .if1 .left ↓ at-if2 .if2 .left ↓ at-if3 .if3 .left ↓ at-if4 .if4 .left ↓ at-if5 .if5 .left ↓
+    c .before .if6 .left ↓ c .if7 .left ↓ none refl)
 
 pub largest-spec : {M : Type 1} → statement M
 largest-spec = tie.close (tie.spec returns returns-2 returns-3 returns-4 returns-5 returns-6 returns-7 returns-8)

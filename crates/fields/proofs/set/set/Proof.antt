@@ -10,7 +10,9 @@ returns c = sym (set-unknown _ _ _ (sym (c .before .largest .ensures) ∙ c .if1
 returns-2 : tie.Need-returns-2
 returns-2 c =
     let at-largest = c .before .before in
-    sym (set-large _ _ _ (λ z. c .before .if1 .left (at-largest .largest .ensures ∙ z)) (simp (at-largest .largest .ensures) at (c .if2 .taken)))
+    sym
+    (set-large _ _ _ (λ z. c .before .if1 .left (at-largest .largest .ensures ∙ z))
+    (simp (at-largest .largest .ensures) at (c .if2 .taken)))
 
 returns-3 : tie.Need-returns-3
 returns-3 c =
@@ -20,9 +22,15 @@ returns-3 c =
     let at-if2 = at-settings2 .before .before .before .before in
     let at-if1 = at-if2 .before in
     let at-largest = at-if1 .before in
-    simp
-    (at-settings2 .settings2 .ensures, at-events2 .events2 .ensures, at-counters2 .counters2 .ensures, c .before .pick .ensures, c .pick2 .ensures)
-    (set-stores _ _ _ (λ z. at-if1 .if1 .left (at-largest .largest .ensures ∙ z)) (simp (at-largest .largest .ensures) at (at-if2 .if2 .left)))
+    simp (
+      at-settings2 .settings2 .ensures,
+      at-events2 .events2 .ensures,
+      at-counters2 .counters2 .ensures,
+      c .before .pick .ensures,
+      c .pick2 .ensures,
+    )
+    (set-stores _ _ _ (λ z. at-if1 .if1 .left (at-largest .largest .ensures ∙ z))
+    (simp (at-largest .largest .ensures) at (at-if2 .if2 .left)))
 
 pub set-spec : {M : Type 1} → statement M
 set-spec =
