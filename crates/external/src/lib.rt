@@ -5,9 +5,9 @@ mod reach; // reach.rt: how far an access at an offset gets
 
 ghost use mathlib.Core.Path.{_≡_};
 ghost use Rattle.fields.specs.Store.{store};
-ghost use Rattle.machine.specs.Machine.{withOvs};
 ghost use Rattle.rules.specs.External.{readOf, writeOf, tickOf, effectOf, ovsCounted, judge, enact};
 ghost use Rattle.rules.specs.External.{externalRead, externalWrite, tick};
+ghost use Rattle.state.specs.State.{viewOf};
 use answer::Answer;
 use machine::Machine;
 use machine::Outcome;
@@ -92,15 +92,6 @@ fn with_cnten(e: u64, r: Machine) -> Machine
     next
 }
 
-// The record with these overflow flags.
-fn with_ovs(o: u64, r: Machine) -> Machine
-    ensures { λ m. ⌜ m ≡ withOvs o r ⌝ }
-{
-    let mut next = r;
-    next.ovs = o;
-    next
-}
-
 // The overflow flags after the instruction counter, which held y, went up.
 fn ovs_counted(y: u64, ovs: u64) -> u64
     ensures { λ o. ⌜ o ≡ ovsCounted y ovs ⌝ }
@@ -109,7 +100,7 @@ fn ovs_counted(y: u64, ovs: u64) -> u64
 }
 
 // What an effect answers and does to the record.
-fn enact(e: Effect, r: Machine) -> Outcome
+fn enact(e: Effect, mut r: Machine) -> Outcome
     ensures { λ o. ⌜ o ≡ enact e r ⌝ }
 {
     match e {
@@ -128,45 +119,56 @@ fn enact(e: Effect, r: Machine) -> Outcome
                 machine: r,
             }
         }
-        Effect::ClearOvs { mask } => Outcome {
-            answer: Answer::Ok,
-            machine: with_ovs(flags::lowered(mask, r.ovs), r),
-        },
-        Effect::SetOvs { mask } => Outcome {
-            answer: Answer::Ok,
-            machine: with_ovs(flags::raised(mask, r.ovs), r),
-        },
-        Effect::Count => {
-            let mut next = with_ovs(ovs_counted(r.instructions, r.ovs), r);
-            next.instructions = std::num::wrapping_add_u64(r.instructions, 1);
+        Effect::ClearOvs { mask } => {
+            r.ovs = flags::lowered(mask, r.ovs);
             Outcome {
                 answer: Answer::Ok,
-                machine: next,
+                machine: r,
+            }
+        }
+        Effect::SetOvs { mask } => {
+            r.ovs = flags::raised(mask, r.ovs);
+            Outcome {
+                answer: Answer::Ok,
+                machine: r,
+            }
+        }
+        Effect::Count => {
+            r.ovs = ovs_counted(r.instructions, r.ovs);
+            r.instructions = std::num::wrapping_add_u64(r.instructions, 1);
+            Outcome {
+                answer: Answer::Ok,
+                machine: r,
             }
         }
     }
+}
+
+// What a request answers and does to the record. The three calls below share this one, so that the compiled code has its parts
+// once, in one place.
+fn respond(q: Request, r: Machine) -> Outcome
+    ensures { λ o. ⌜ o ≡ enact (judge (viewOf r) q) r ⌝ }
+{
+    enact(judge(state::view_of(r), q), r)
 }
 
 // An external read at an offset.
 pub fn read(offset: u16, r: Machine) -> Outcome
     ensures { λ o. ⌜ o ≡ externalRead offset r ⌝ }
 {
-    enact(judge(state::view_of(r), Request::Read(offset)), r)
+    respond(Request::Read(offset), r)
 }
 
 // An external write of x at an offset.
 pub fn write(offset: u16, x: u64, r: Machine) -> Outcome
     ensures { λ o. ⌜ o ≡ externalWrite offset x r ⌝ }
 {
-    enact(
-        judge(state::view_of(r), Request::Write { offset, value: x }),
-        r,
-    )
+    respond(Request::Write { offset, value: x }, r)
 }
 
 // One executed instruction, where counting may be prohibited.
 pub fn tick(prohibited: bool, r: Machine) -> Outcome
     ensures { λ o. ⌜ o ≡ tick prohibited r ⌝ }
 {
-    enact(judge(state::view_of(r), Request::Tick(prohibited)), r)
+    respond(Request::Tick(prohibited), r)
 }
