@@ -5,9 +5,9 @@ use lib.Dec.{leb}
 use Rattle.bits.specs.Bits.{bit, fromBits}
 use Rattle.machine.specs.declared.Settings.{Settings}
 
--- MODEL G1: the bits of an event counter
+-- MODEL G1 and G11: 64 bits or 32: those of an event counter, with p5 or without it, and those out of which it overflows
 abbrev pub width : Bool → ℕ
-width p5 = cond p5 64 32
+width wide = cond wide 64 32
 
 -- MODEL G10 and K2: one more, in a width of k bits
 abbrev pub plusOne : ℕ → ℕ → ℕ
@@ -34,7 +34,7 @@ overflowWidth s m = width (s .features .p5 && longBit s m)
 abbrev pub flagBits : ℕ
 flagBits = 33
 
--- MODEL E8, G13 and K3: flags with those of f set too; none is cleared
+-- MODEL E8, E12, G13 and K3: flags with those of f set too; none is cleared
 unfoldable pub raised : (ℕ → Bool) → ℕ → ℕ
 raised f flags = fromBits flagBits (λ m. bit m flags || f m)
 
