@@ -11,6 +11,7 @@ mod icntr;
 mod input;
 mod overflow;
 mod pmovs;
+mod running;
 mod script;
 mod state;
 mod swinc;
@@ -48,6 +49,7 @@ pub fn all() -> Vec<Session> {
         external::sessions,
         overflow::sessions,
         pmovs::sessions,
+        running::sessions,
         worked::sessions,
     ];
     subjects.iter().flat_map(|sessions| sessions()).collect()

@@ -88,6 +88,10 @@ const PASSING: [(u8, u64); 16] = [
 /// they start as 1.
 const LONG: [(u8, u64); 2] = [(0x35, 45), (0x36, 45)];
 
+/// E and HPME, the bits that let the counters of a range run, and how often they
+/// start as 1.
+const RANGES: [(u8, u64); 2] = [(0x3D, 94), (0x3E, 94)];
+
 /// Fields that stop accesses.
 const STOPPING: [u8; 9] = [0x25, 0x26, 0x28, 0x2C, 0x2D, 0x2E, 0x39, 0x3A, 0x3C];
 
@@ -120,6 +124,7 @@ impl Writer {
         self.bytes.push(0x05);
         self.bytes.extend(offset.to_le_bytes());
         self.bytes.extend(value.to_le_bytes());
+        self.machine.external_write(offset, value);
     }
 
     fn tick(&mut self, flag: u8) {
@@ -175,7 +180,7 @@ impl Writer {
         for (field, percent) in PASSING {
             self.start_bit(field, percent);
         }
-        for (field, percent) in LONG {
+        for (field, percent) in LONG.into_iter().chain(RANGES) {
             self.start_bit(field, percent);
         }
         for field in STOPPING {
@@ -183,8 +188,8 @@ impl Writer {
         }
         let p = self.rng.next() & self.rng.pick(&[0, 0x7FFF_FFFF, 0x7FFF_FFFF]);
         self.set(0x32, p);
-        if self.rng.chance(70) {
-            let enables = self.rng.next() & 0x1_FFFF_FFFF;
+        if self.rng.chance(95) {
+            let enables = self.enables();
             self.set(0x34, enables);
         }
         if self.rng.chance(40) {
@@ -242,6 +247,20 @@ impl Writer {
         }
     }
 
+    /// Counter enables: mostly those of all event counters or of all but one,
+    /// which is often beside N or HPMN. Bits 31 and 32 are as it happens.
+    fn enables(&mut self) -> u64 {
+        let any = self.rng.next() & 0x1_FFFF_FFFF;
+        let one = 1 << self.counter();
+        match self.rng.below(12) {
+            0 => any,
+            1 => any & 0x1_8000_0000 | one,
+            2 => any & 0x1_8000_0000,
+            3..=6 => (any | 0x7FFF_FFFF) & !one,
+            _ => any | 0x7FFF_FFFF,
+        }
+    }
+
     /// A value of 64 bits, often beside a border.
     fn operand(&mut self) -> u64 {
         let small = self.rng.below(256);
@@ -264,12 +283,12 @@ impl Writer {
 
 // Commands in the middle of a session.
 impl Writer {
-    /// One command, or a few that make a counter run over.
+    /// One command, or a few that make a counter run over, or switch it off.
     fn step(&mut self) {
-        if self.rng.chance(8) {
-            self.run_over();
-        } else {
-            self.command();
+        match self.rng.below(100) {
+            0..=7 => self.run_over(),
+            8..=12 => self.switch_off(),
+            _ => self.command(),
         }
     }
 
@@ -305,8 +324,10 @@ impl Writer {
                 self.set(field, value);
             }
             2 => {
-                let list = [0x00, 0x0C, 0x10, 0x20, 0x27, 0x32, 0x34, 0x35, 0x36, 0x3C, 0x40, 0x5E];
-                let field = self.rng.pick(&list);
+                let field = self.rng.pick(&[
+                    0x00, 0x0C, 0x10, 0x20, 0x27, 0x32, 0x34, 0x35, 0x36, 0x3C, 0x3D, 0x3E, 0x40,
+                    0x5E,
+                ]);
                 let largest = Machine::largest(field).unwrap_or(0);
                 self.set(field, largest + 1);
             }
@@ -336,7 +357,7 @@ impl Writer {
 
     /// A set command that leaves a consistent record consistent.
     fn good_set(&mut self) {
-        let field = match self.rng.below(9) {
+        let field = match self.rng.below(10) {
             0 => 0x60 + self.rng.below(32) as u8,
             1 => 0x40 + self.rng.below(31) as u8,
             2 => self.rng.pick(&[0x32, 0x34, 0x0C, 0x27]),
@@ -344,6 +365,7 @@ impl Writer {
             4 => self.rng.pick(&STOPPING),
             5 => 0x10 + self.rng.below(3) as u8,
             6 => self.rng.pick(&[0x35, 0x36, 0x37]),
+            7 => self.rng.pick(&[0x34, 0x3D, 0x3E]),
             _ => self.rng.pick(&PASSING).0,
         };
         let value = match field {
@@ -351,7 +373,8 @@ impl Writer {
             0x7F => self.operand(),
             0x40..=0x5E => self.rng.pick(&[0, 0, 0, 1, 0xFFFF]),
             0x32 => self.rng.next() & 0x7FFF_FFFF,
-            0x34 => self.rng.next() & 0x1_FFFF_FFFF,
+            0x34 => self.enables(),
+            0x3D | 0x3E => self.rng.chance(70) as u64,
             0x37 => self.flags(),
             0x0C | 0x27 => self.rng.below(32),
             _ => self.rng.below(2),
@@ -611,8 +634,8 @@ impl Writer {
         }
     }
 
-    /// Some counters next to a carry, their event numbers mostly 0, then one
-    /// PMSWINC or two.
+    /// Some counters next to a carry, mostly on and their event numbers 0, then
+    /// one PMSWINC or two.
     fn carry_events(&mut self) {
         let mut operand = if self.rng.chance(20) { self.mask() } else { 0 };
         for _ in 0..1 + self.rng.below(3) {
@@ -620,8 +643,8 @@ impl Writer {
             operand |= 1 << m;
             let value = self.carry_value();
             self.set(0x60 + m, value);
-            if self.machine.event[m as usize] != 0 && self.rng.chance(70) {
-                self.set(0x40 + m, 0);
+            if self.rng.chance(70) {
+                self.switch_on(m);
             }
         }
         let rt = if self.rng.chance(3) { 31 } else { self.rng.below(31) as u32 };
@@ -646,7 +669,8 @@ impl Writer {
         (upper << 32 | 0xFFFF_FFFF) - before
     }
 
-    /// The instruction counter next to a carry, mostly enabled, and ticks.
+    /// The instruction counter next to a carry, mostly enabled, and ticks. E and
+    /// HPME, which ticks do not ask for, are now and then 0 meanwhile.
     fn wrap_ticks(&mut self) {
         let before = self.rng.below(2);
         let value = if self.rng.chance(85) { u64::MAX } else { self.operand() | 0xFFFF_FFFF };
@@ -655,9 +679,18 @@ impl Writer {
             let enables = self.machine.pmcnten | 1 << 32;
             self.set(0x34, enables);
         }
+        let off = self.rng.chance(25);
+        if off {
+            self.set(0x3D, 0);
+            self.set(0x3E, 0);
+        }
         for _ in 0..=before {
             let flag = self.rng.pick(&[0, 0, 0, 0, 0, 0, 0, 1, 2]);
             self.tick(flag);
+        }
+        if off {
+            self.set(0x3D, 1);
+            self.set(0x3E, 1);
         }
     }
 
@@ -676,6 +709,69 @@ impl Writer {
         let mend: Vec<(u8, u64)> = wrong.map(|&(_, field, value)| (field, value)).collect();
         for &(field, value) in mend.iter().take(2) {
             self.set(field, value);
+        }
+    }
+}
+
+// Counters that are on and off.
+impl Writer {
+    /// Sets what a counter lacks to count software increments: the event number,
+    /// its enable bit, now and then from outside, and the bits of both ranges.
+    fn switch_on(&mut self, m: u8) {
+        if self.machine.event[m as usize] != 0 {
+            self.set(0x40 + m, 0);
+        }
+        let enables = self.machine.pmcnten;
+        if enables >> m & 1 == 0 && self.rng.chance(15) {
+            self.write(0xC00, 1 << m);
+        } else if enables >> m & 1 == 0 {
+            self.set(0x34, enables | 1 << m);
+        }
+        if !self.machine.pmcr_e {
+            self.set(0x3D, 1);
+        }
+        if !self.machine.hpme {
+            self.set(0x3E, 1);
+        }
+    }
+
+    /// HPMN just below a counter, at it or just above, as far as N lets it.
+    fn hpmn_beside(&mut self, m: u8) {
+        let least = if self.machine.hpmn0 { 0 } else { 1 };
+        let near = (m as u64 + self.rng.below(3)).saturating_sub(1);
+        self.set(0x27, near.max(least).min(self.machine.n as u64));
+    }
+
+    /// A counter that is on, mostly but for one thing, PMSWINC, and a read of it.
+    /// The thing is mostly set back, and now and then PMSWINC comes again.
+    fn switch_off(&mut self) {
+        let n = self.machine.n;
+        let m = self.counter().min(30) as u8;
+        let m = if n > 0 && self.rng.chance(85) { m % n } else { m };
+        self.switch_on(m);
+        let enables = self.machine.pmcnten;
+        let (field, off, on) = match self.rng.below(10) {
+            0..=2 => (0x34, enables & !(1 << m), enables),
+            3 | 4 => (0x3D, 0, 1),
+            5..=7 => (0x3E, 0, 1),
+            8 => (0x40 + m, 1, 0),
+            _ => (0x3D, 1, 1),
+        };
+        self.set(field, off);
+        match self.rng.below(10) {
+            0 | 1 => self.divide(),
+            2 | 3 => self.hpmn_beside(m),
+            _ => {}
+        }
+        let mask = self.mask();
+        let operand = self.rng.pick(&[1 << m, 7 << m >> 1, mask | 1 << m]);
+        self.access(word(false, 9, 12, 4, 1), operand);
+        self.access(counter_word(true, m as u32, 2), 0);
+        if self.rng.chance(80) {
+            self.set(field, on);
+        }
+        if self.rng.chance(30) {
+            self.access(word(false, 9, 12, 4, 1), operand);
         }
     }
 }

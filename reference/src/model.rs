@@ -96,6 +96,9 @@ pub struct Machine {
     pub lp: bool,
     pub hlp: bool,
     pub pmovs: u64,
+    // What lets the counters of a range run: PMCR_EL0.E, MDCR_EL2.HPME.
+    pub pmcr_e: bool,
+    pub hpme: bool,
     // External interface.
     pub core_powered: bool,
     pub double_lock: bool,
@@ -185,7 +188,7 @@ impl Machine {
             0x32 => Some(0x7FFF_FFFF),
             0x34 => Some(0x1_FFFF_FFFF),
             0x37 => Some(0x1_7FFF_FFFF),
-            0x00..=0x0B | 0x10..=0x12 | 0x20..=0x36 | 0x38..=0x3C => Some(1),
+            0x00..=0x0B | 0x10..=0x12 | 0x20..=0x36 | 0x38..=0x3E => Some(1),
             0x40..=0x5E => Some(0xFFFF),
             0x60..=0x7F => Some(u64::MAX),
             _ => None,
@@ -234,7 +237,7 @@ impl Machine {
     fn set_bit(&mut self, field: u8, value: bool) {
         let place = match field {
             0x00..=0x12 => self.feature(field),
-            0x20..=0x36 => self.control(field),
+            0x20..=0x36 | 0x3D | 0x3E => self.control(field),
             _ => self.external(field),
         };
         if let Some(place) = place {
@@ -287,6 +290,8 @@ impl Machine {
             0x33 => &mut self.pmuacr_f0,
             0x35 => &mut self.lp,
             0x36 => &mut self.hlp,
+            0x3D => &mut self.pmcr_e,
+            0x3E => &mut self.hpme,
             _ => return None,
         })
     }
@@ -377,7 +382,7 @@ impl Machine {
     }
 }
 
-// Arm's page of PMSWINC_EL0: MODEL U3, U4, T1 to T10 and G8 to G13.
+// Arm's page of PMSWINC_EL0: MODEL U3, U4, T1 to T10 and G8 to G14.
 impl Machine {
     fn pmswinc_at_el0(&self) -> Flow {
         if self.el3_priority() && self.mdcr_el3_tpm {
@@ -445,7 +450,7 @@ impl Machine {
     fn write_pmswinc(&mut self, operand: u64) {
         for m in 0..31u8 {
             let i = m as usize;
-            let counts = self.event[i] == 0;
+            let counts = self.event[i] == 0 && self.runs(m);
             if operand >> m & 1 == 1 && counts && !self.pmswinc_ignores(m) {
                 if self.overflows(m) {
                     self.pmovs |= 1 << m;
@@ -455,10 +460,22 @@ impl Machine {
         }
     }
 
-    /// The bit that makes a counter overflow as a long one. HPMN divides the
-    /// counters wherever EL2 is implemented, enabled or not.
+    /// MODEL G12: HPMN divides the counters wherever EL2 is implemented, enabled
+    /// or not. Those from it up are the second range, which MDCR_EL2 has bits for.
+    fn second_range(&self, m: u8) -> bool {
+        self.have_el2 && m >= self.hpmn
+    }
+
+    /// MODEL G14: the counter is on: its own enable bit, and that of its range. A
+    /// counter that is off keeps its value and its overflow flag.
+    fn runs(&self, m: u8) -> bool {
+        let range = if self.second_range(m) { self.hpme } else { self.pmcr_e };
+        range && self.pmcnten >> m & 1 == 1
+    }
+
+    /// The bit that makes a counter overflow as a long one.
     fn long(&self, m: u8) -> bool {
-        if self.have_el2 && m >= self.hpmn {
+        if self.second_range(m) {
             self.hlp
         } else {
             self.lp

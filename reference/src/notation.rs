@@ -150,7 +150,7 @@ fn field_name(field: u8) -> String {
 }
 
 /// Names of the fields outside the two rows of counters.
-const NAMES: [(u8, &str); 46] = [
+const NAMES: [(u8, &str); 48] = [
     (0x00, "PMUv3"),
     (0x01, "PMUv3p5"),
     (0x02, "PMUv3p9"),
@@ -196,5 +196,7 @@ const NAMES: [(u8, &str); 46] = [
     (0x3A, "OS lock"),
     (0x3B, "external access allowed"),
     (0x3C, "software lock"),
+    (0x3D, "PMCR.E"),
+    (0x3E, "MDCR_EL2.HPME"),
     (0x7F, "instruction counter"),
 ];

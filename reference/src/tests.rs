@@ -1,7 +1,8 @@
 //! Tests: the worked session (MODEL S8), the worked examples (MODEL P1 to P11)
 //! through sessions, the limit, the round trip of the notation, the examples,
 //! the orders of traps written a second time as the tables that they are (MODEL
-//! T1 to T6 and I1 to I6), and the overflow flags against sums of 128 bits.
+//! T1 to T6 and I1 to I6), the overflow flags against sums of 128 bits, and the
+//! counters that are off.
 
 use crate::generate::{self, Rng};
 use crate::model::{Answer, Machine};
@@ -16,6 +17,9 @@ fn run_text(text: &str) -> String {
 /// MODEL P0: what the worked examples start from.
 const GIVEN: &str = "01 00 v:1 01 01 v:1 01 02 v:1 01 04 v:1 01 08 v:1 01 09 v:1
     01 10 v:1 01 38 v:1 01 3B v:1 01 0C v:6 01 27 v:4 01 20 v:1 ";
+
+/// Every event counter on: the enables, E and HPME.
+const ON: &str = "01 34 v:0x7FFFFFFF 01 3D v:1 01 3E v:1 ";
 
 /// Runs commands after the given start; the answers without `ok` and `end`.
 fn sound(text: &str) -> Vec<String> {
@@ -74,18 +78,18 @@ fn p06() {
     let reads = "02 02 03 62 E8 3B D5 v:0 03 82 E8 3B D5 v:0";
     let swinc = "03 81 9C 1B D5 v:24";
     assert_eq!(
-        sound(&format!("02 01 {swinc} {reads}")),
+        sound(&format!("{ON} 02 01 {swinc} {reads}")),
         ["value 0000000000000001 2", "value 0000000000000000 2"]
     );
     assert_eq!(
-        sound(&format!("02 02 {swinc} {reads}")),
+        sound(&format!("{ON} 02 02 {swinc} {reads}")),
         ["value 0000000000000001 2", "value 0000000000000001 2"]
     );
 }
 
 #[test]
 fn p07() {
-    let text = "01 60 v:4294967295 02 01 03 81 9C 1B D5 v:1 03 02 E8 3B D5 v:0";
+    let text = &format!("{ON} 01 60 v:4294967295 02 01 03 81 9C 1B D5 v:1 03 02 E8 3B D5 v:0");
     assert_eq!(sound(text), ["value 0000000100000000 2"]);
     assert_eq!(sound(&format!("01 01 v:0 01 02 v:0 {text}")), ["value 0000000000000000 2"]);
 }
@@ -99,7 +103,7 @@ fn p08() {
 #[test]
 fn p09() {
     let text = "01 23 v:1 01 21 v:1 01 20 v:0 03 81 9C 1B D5 v:8 02 02 03 62 E8 3B D5 v:0";
-    assert_eq!(sound(text), ["value 0000000000000001 2"]);
+    assert_eq!(sound(&format!("{ON} {text}")), ["value 0000000000000001 2"]);
 }
 
 /// MODEL P10: counter 5 stands in the place of counter 4.
@@ -328,7 +332,7 @@ fn generated_sessions_stay_in_range() {
 /// Counters 3 and 4 have a value and are incremented at level 2, HPMN being 4:
 /// the flags, and the value of counter 3.
 fn carried(value: u64, more: &str) -> [String; 2] {
-    let text = format!("01 63 v:{value} 01 64 v:{value} {more} 02 02 03 81 9C 1B D5 v:24");
+    let text = format!("{ON} 01 63 v:{value} 01 64 v:{value} {more} 02 02 03 81 9C 1B D5 v:24");
     let mut answers = sound(&format!("{text} 04 80 0C 03 62 E8 3B D5 v:0")).into_iter();
     let mut next = || answers.next().expect("answer");
     [next(), next()]
@@ -367,7 +371,7 @@ fn carries_out_of_32_or_64_bits() {
 /// HLP needs EL2 implemented; enabled or not, it does not matter.
 #[test]
 fn hpmn_divides_where_el2_is_implemented() {
-    let start = "01 63 v:0xFFFFFFFF 01 64 v:0xFFFFFFFF 01 36 v:1 01 10 v:0 02 01";
+    let start = &format!("{ON} 01 63 v:0xFFFFFFFF 01 64 v:0xFFFFFFFF 01 36 v:1 01 10 v:0 02 01");
     let end = "03 81 9C 1B D5 v:24 04 80 0C";
     assert_eq!(sound(&format!("{start} {end}")), ["value 0000000000000008"]);
     assert_eq!(sound(&format!("{start} 01 09 v:0 {end}")), ["value 0000000000000018"]);
@@ -378,12 +382,18 @@ fn hpmn_divides_where_el2_is_implemented() {
 /// A counter that does not move gets no flag, and no flag goes away.
 #[test]
 fn only_increments_set_flags() {
-    let start = "01 63 v:0xFFFFFFFF 01 64 v:0xFFFFFFFF 01 37 v:1";
+    let start = &format!("{ON} 01 63 v:0xFFFFFFFF 01 64 v:0xFFFFFFFF 01 37 v:1");
     let end = "03 81 9C 1B D5 v:0xFFFFFFFFFFFFFFFF 04 80 0C";
     let rows = [
         ("02 02", "value 0000000000000019"),
         ("02 01", "value 0000000000000009"),
         ("02 02 01 43 v:1", "value 0000000000000011"),
+        ("02 02 01 34 v:0x10", "value 0000000000000011"),
+        ("02 02 01 34 v:0", "value 0000000000000001"),
+        ("02 02 01 3D v:0", "value 0000000000000011"),
+        ("02 02 01 3E v:0", "value 0000000000000009"),
+        ("02 02 01 3D v:0 01 3E v:0", "value 0000000000000001"),
+        ("02 02 01 37 v:0x18 01 34 v:0", "value 0000000000000018"),
         ("02 02 01 0C v:4 01 27 v:4", "value 0000000000000009"),
         ("02 00 01 23 v:1", "value 0000000000000001"),
         ("02 00 01 23 v:1 01 21 v:1", "value 0000000000000009"),
@@ -464,6 +474,128 @@ fn out_of_range() {
     assert_eq!(machine.tick(0), Answer::Ok);
 }
 
+/// Whether counters 3 and 4 go up by one PMSWINC, HPMN being 4 if not changed.
+fn go_up(text: &str) -> [bool; 2] {
+    let end = "03 81 9C 1B D5 v:24 03 62 E8 3B D5 v:0 03 82 E8 3B D5 v:0";
+    let answers = sound(&format!("{text} {end}"));
+    assert_eq!(answers.len(), 2, "{text}");
+    [0, 1].map(|index| match answers[index].as_str() {
+        "value 0000000000000000 2" => false,
+        "value 0000000000000001 2" => true,
+        other => panic!("{text}: {other}"),
+    })
+}
+
+#[test]
+fn counters_that_are_off_stay_still() {
+    let rows = [
+        ("", [false, false]),
+        ("01 3D v:1 01 3E v:1", [false, false]),
+        ("01 34 v:24", [false, false]),
+        ("01 34 v:24 01 3D v:1 01 3E v:1", [true, true]),
+        ("01 34 v:8 01 3D v:1 01 3E v:1", [true, false]),
+        ("01 34 v:16 01 3D v:1 01 3E v:1", [false, true]),
+        ("01 34 v:0x1FFFFFFE7 01 3D v:1 01 3E v:1", [false, false]),
+        ("01 34 v:24 01 3D v:1", [true, false]),
+        ("01 34 v:24 01 3E v:1", [false, true]),
+        ("01 34 v:24 01 3D v:1 01 3E v:1 01 44 v:1", [true, false]),
+        ("01 34 v:24 01 3D v:1 01 27 v:3", [false, false]),
+        ("01 34 v:24 01 3E v:1 01 27 v:3", [true, true]),
+        ("01 34 v:24 01 3D v:1 01 27 v:5", [true, true]),
+        ("01 34 v:24 01 3E v:1 01 27 v:5", [false, false]),
+        // No counter in the second range, and all of them.
+        ("01 34 v:24 01 3D v:1 01 27 v:6", [true, true]),
+        ("01 34 v:24 01 3E v:1 01 27 v:6", [false, false]),
+        ("01 34 v:24 01 3D v:1 01 27 v:0 01 06 v:1", [false, false]),
+        ("01 34 v:24 01 3E v:1 01 27 v:0 01 06 v:1", [true, true]),
+    ];
+    for (more, expected) in rows {
+        assert_eq!(go_up(&format!("02 02 {more}")), expected, "{more}");
+        assert_eq!(go_up(&format!("01 0A v:1 02 03 {more}")), expected, "{more}");
+    }
+}
+
+/// EL2 enabled or not, HPME is asked where it is implemented.
+#[test]
+fn hpme_needs_el2_implemented() {
+    let rows = [
+        ("01 3D v:1", [true, false], [true, true]),
+        ("01 3E v:1", [false, true], [false, false]),
+        ("01 3D v:1 01 3E v:1", [true, true], [true, true]),
+        ("01 3E v:1 01 27 v:1", [true, true], [false, false]),
+        ("01 3D v:1 01 27 v:1", [false, false], [true, true]),
+    ];
+    for (more, implemented, missing) in rows {
+        for level in ["02 00", "02 01"] {
+            let text = format!("01 34 v:24 01 10 v:0 {more} {level}");
+            assert_eq!(go_up(&text), implemented, "{text}");
+            assert_eq!(go_up(&format!("{text} 01 09 v:0")), missing, "{text}");
+        }
+    }
+}
+
+#[test]
+fn every_counter_has_its_enable_bit() {
+    let set = [(0x00, 1), (0x09, 1), (0x0A, 1), (0x0C, 31), (0x27, 16), (0x3D, 1), (0x3E, 1)];
+    for bit in 0..33 {
+        let mut machine = Machine::default();
+        for (field, value) in set {
+            machine.set(field, value);
+        }
+        machine.set_level(3);
+        machine.set(0x34, 1 << bit);
+        assert_eq!(machine.access(0xD51B_9C81, u64::MAX), Answer::Ok);
+        for m in 0..31 {
+            assert_eq!(machine.pmevcntr[m], (m == bit) as u64, "{bit} {m}");
+        }
+    }
+}
+
+#[test]
+fn counters_are_enabled_from_outside() {
+    let start = "02 02 01 3D v:1 01 3E v:1";
+    assert_eq!(go_up(&format!("{start} 05 00 0C v:8")), [true, false]);
+    assert_eq!(go_up(&format!("{start} 05 00 0C v:8 05 00 0C v:16")), [true, true]);
+    assert_eq!(go_up(&format!("{start} 01 3C v:1 05 00 0C v:24")), [false, false]);
+    assert_eq!(go_up(&format!("{start} 01 0C v:4 05 00 0C v:24 01 0C v:6")), [true, false]);
+}
+
+/// MRS and MSR do not ask whether a counter is on, and ticks have an enable bit
+/// of their own.
+#[test]
+fn only_increments_ask_for_e_and_hpme() {
+    for settings in ["", "01 3D v:1", "01 3E v:1", "01 3D v:1 01 3E v:1"] {
+        let moves = "02 02 03 61 E8 1B D5 v:5 03 81 E8 1B D5 v:6
+                     03 62 E8 3B D5 v:0 03 82 E8 3B D5 v:0";
+        let expected = ["value 0000000000000005 2", "value 0000000000000006 2"];
+        assert_eq!(sound(&format!("{settings} {moves}")), expected);
+        let ticks = "01 03 v:1 01 34 v:0x100000000 01 7F v:0xFFFFFFFFFFFFFFFF 06 00 06 00 02 02
+                     03 02 94 3B D5 v:0 04 80 0C";
+        let expected = ["value 0000000000000001 2", "value 0000000100000000"];
+        assert_eq!(sound(&format!("{settings} {ticks}")), expected);
+    }
+}
+
+#[test]
+fn e_and_hpme_are_bits() {
+    let mut machine = Machine::default();
+    for (field, value, e, hpme) in [
+        (0x3D, 1, true, false),
+        (0x3E, 1, true, true),
+        (0x3D, 0, false, true),
+        (0x3D, 1, true, true),
+        (0x3E, 0, true, false),
+    ] {
+        assert_eq!(machine.set(field, value), Answer::Ok);
+        for refused in [2, 3, 0x100, 1 << 32, u64::MAX] {
+            assert_eq!(machine.set(0x3D, refused), Answer::Refused(4));
+            assert_eq!(machine.set(0x3E, refused), Answer::Refused(4));
+        }
+        assert_eq!(machine.set(0x3F, value), Answer::Refused(3));
+        assert_eq!(machine, Machine { pmcr_e: e, hpme, ..Machine::default() });
+    }
+}
+
 /// A value that is often next to a carry.
 fn near_carry(rng: &mut Rng, p5: bool) -> u64 {
     let any = rng.next();
@@ -505,10 +637,13 @@ fn increments_agree_with_sums() {
         for m in 0..31u8 {
             let r = &machine;
             let held = r.pmuv3p9 && r.uen && !r.sw && r.pmuacr_p >> m & 1 == 0;
+            let on = if m < r.hpmn || !r.have_el2 { r.pmcr_e } else { r.hpme };
             let ignored = m >= r.n
                 || r.el <= 1 && r.el2_enabled && m >= r.hpmn
                 || r.el == 0 && held
-                || r.event[m as usize] != 0;
+                || r.event[m as usize] != 0
+                || !on
+                || r.pmcnten & 1 << m == 0;
             if rules(r, None, false) == 0 && operand >> m & 1 == 1 && !ignored {
                 let (value, flag) = one_more(r, m);
                 expected.pmevcntr[m as usize] = value;

@@ -9,7 +9,8 @@ use borrow.Author.Tests.{lt-ltb, le-ltb, ltb-true, ltb-false, eq-eqb, eqb-true, 
 use lib.Dec.{ltb, eqb}
 use lib.ListN.{getD, length, List·getD-eq-default}
 use Rattle.machine.specs.declared.Settings.{Settings}
-use Rattle.rules.specs.Overflow.{width, carries, longBit, overflowWidth, raised}
+use Rattle.rules.specs.Ranges.{longBit}
+use Rattle.rules.specs.Overflow.{width, carries, overflowWidth, raised}
 use Rattle.rules.specs.Apply.{added, overflows}
 use Rattle.bits.proofs.Single.{mod-mod}
 use Rattle.rules.proofs.Width.{carries-ones}

@@ -5,7 +5,8 @@ ghost use mathlib.Core.Path.{_≡_};
 ghost use Prim.Native.Nat.{_%_, _^_};
 ghost use lib.Dec.{eqb, ltb};
 ghost use lib.ListN.{getD, set};
-ghost use Rattle.rules.specs.Overflow.{width, plusOne, carries, longBit, overflowWidth, raised};
+ghost use Rattle.rules.specs.Ranges.{longBit};
+ghost use Rattle.rules.specs.Overflow.{width, plusOne, carries, overflowWidth, raised};
 ghost use Rattle.rules.specs.Apply.{mapFrom, incremented, overflows};
 use machine::Settings;
 

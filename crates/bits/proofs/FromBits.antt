@@ -1,7 +1,7 @@
 -- Laws of `fromBits`, over the number of bits: its bits are the ones given, a number is made of its own bits, and equal bits make
 -- equal numbers.
 use Prim.Native.Nat.{ℕ, zero, suc, _+_, _*_, _/_, _%_, _^_, _<_}
-use mathlib.Core.Bool.{Bool, true, false, cond}
+use mathlib.Core.Bool.{Bool, true, false, cond, not, _&&_}
 use mathlib.Core.Path.{_≡_, refl, sym, _∙_, ap, ap₂}
 use native.Mathlib.Nat.{pow-suc, mod-one, mod-lt, zero-mul, one-mul, add-comm}
 use native.Mathlib.Numerals.{one-add}
@@ -87,3 +87,18 @@ bit-off k f m n = go (ltb m k) refl
     go : (b : Bool) → ltb m k ≡ b → bit m (fromBits k f) ≡ false
     go true t = bit-fromBits k f m (ltb-true m k t) ∙ n
     go false t = bit-past {x = fromBits k f} k m (fromBits-lt k f) (ltb-false m k t)
+
+-- a number's bits in two parts, those that g has and the others
+pub fromBits-parts :
+    (k : ℕ) (f g : ℕ → Bool)
+    → fromBits k (λ m. f m && not (g m)) + fromBits k (λ m. f m && g m) ≡ fromBits k f
+unfolding fromBits
+fromBits-parts zero f g = refl
+fromBits-parts (suc k) f g = go _ _ (fromBits-parts k f g) (f k) (g k)
+  where
+    go :
+        (a b : ℕ) {c : ℕ} → a + b ≡ c → (x y : Bool)
+        → (a + cond (x && not y) (2 ^ k) 0) + (b + cond (x && y) (2 ^ k) 0) ≡ c + cond x (2 ^ k) 0
+    go a b e true true = omega arith
+    go a b e true false = omega arith
+    go a b e false y = omega arith

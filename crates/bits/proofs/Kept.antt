@@ -1,6 +1,6 @@
 -- Which bits of a number made of bits are left by a remainder, and by an intersection.
 use Prim.Native.Nat.{ℕ, _%_, _^_, _<_, _≤_}
-use mathlib.Core.Bool.{Bool, true, false, not, _&&_, and-true, and-false, Bool·not-not}
+use mathlib.Core.Bool.{Bool, true, false, not, _&&_, and-true, and-false}
 use mathlib.Core.Path.{_≡_, refl, sym, _∙_, ap}
 use native.Mathlib.Nat.{mod-eq-of-lt, mod-le, mod-lt}
 use native.Mathlib.Omega.{arith}
@@ -33,10 +33,7 @@ module _ (k : ℕ) (f : ℕ → Bool) where
       made-of (fromBits k f % 2 ^ n) _ (mod-le (fromBits k f) (2 ^ n))
       (λ m h. bit-below n (fromBits k f) m ∙ ap (λ b. b && not (leb n m)) (bit-fromBits k f m h))
 
-  pub among-bits : (p : ℕ) → bitAnd (fromBits k f) p ≡ fromBits k (λ m. f m && not (not (bit m p)))
+  pub among-bits : (p : ℕ) → bitAnd (fromBits k f) p ≡ fromBits k (λ m. f m && bit m p)
   among-bits p =
       made-of (bitAnd (fromBits k f) p) _ (and-le-l (fromBits k f) p)
-      (λ m h.
-      bit-and m (fromBits k f) p
-      ∙ ap (λ b. b && bit m p) (bit-fromBits k f m h)
-      ∙ ap (λ b. f m && b) (sym (Bool·not-not (bit m p))))
+      (λ m h. bit-and m (fromBits k f) p ∙ ap (λ b. b && bit m p) (bit-fromBits k f m h))

@@ -1,4 +1,5 @@
-// Bits of numbers: one bit, and the lowest ones.
+// Bits of numbers: one bit, and the lowest ones; and a choice between two numbers.
+ghost use mathlib.Core.Bool.{cond};
 ghost use mathlib.Core.Path.{_≡_};
 ghost use Prim.Native.Nat.{_%_, _^_};
 ghost use Rattle.bits.specs.Bits.{bit};
@@ -21,4 +22,11 @@ pub fn below(n: u64, x: u64) -> u64
         return x;
     }
     x % (1 << n)
+}
+
+// a where the test holds, else b. (`select` in the crate `traps` says the same of bools: one function cannot serve both types.)
+pub fn pick(test: bool, a: u64, b: u64) -> u64
+    ensures { λ r. ⌜ r ≡ cond test a b ⌝ }
+{
+    if test { a } else { b }
 }

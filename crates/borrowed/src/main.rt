@@ -1,9 +1,10 @@
 // Four accesses by `in_place::owned`. It is that function which lends the record, to `in_place::step`, and hands it back with the
 // answer; here the record is passed by value. Each answer is printed as a session prints it, the next access gets the record that
 // came back, and at the end a counter of the last record is printed.
+ghost use mathlib.Core.List.{[], _∷_};
 ghost use mathlib.Core.Path.{_≡_};
 ghost use Prim.Native.Nat.{_<_};
-ghost use Rattle.fields.specs.Set.{set, setLevel};
+ghost use Rattle.fields.specs.Set.{set, setAll, setLevel};
 ghost use Rattle.machine.specs.Machine.{fresh};
 ghost use Rattle.rules.specs.Step.{step};
 use answer::Answer;
@@ -17,11 +18,12 @@ fn with(r: Machine, f: u8, v: u64) -> Machine
     o.machine
 }
 
-// The fresh record with PMUv3 and two event counters, at level 1.
+// The fresh record with PMUv3 and two event counters, of which counter 1 is enabled, at level 1.
 fn start() -> Machine
-    ensures { λ m. ⌜ m ≡ setLevel 1 (set 12 2 (set 0 1 fresh .machine) .machine) .machine ⌝ }
+    ensures { λ m. ⌜ m ≡ setLevel 1 (setAll ((0x00, 1) ∷ (0x0C, 2) ∷ (0x34, 2) ∷ (0x3D, 1) ∷ []) fresh) .machine ⌝ }
 {
-    let r = with(with(machine::fresh::fresh(), 0x00, 1), 0x0C, 2);
+    let stopped = with(with(machine::fresh::fresh(), 0x00, 1), 0x0C, 2);
+    let r = with(with(stopped, 0x34, 2), 0x3D, 1);
     let o = fields::set::set_level(1, r);
     o.machine
 }

@@ -1,10 +1,8 @@
 // What a permitted access is to do (MODEL G), decided without a counter.
-ghost use mathlib.Core.Bool.{cond, _&&_};
 ghost use mathlib.Core.Path.{_≡_};
-ghost use Prim.Native.Nat.{_%_, _^_};
 ghost use Rattle.rules.specs.Permitted.{placeAccess, pmuacrBinds, addMask};
 ghost use Rattle.rules.specs.Step.{permitted};
-ghost use Rattle.rules.specs.Traps.{upTo, el2Enabled};
+use crate::enabled;
 use answer::Answer;
 use rules::Decision;
 use rules::Instruction;
@@ -48,23 +46,14 @@ fn pmuacr_binds(v: View) -> bool
     (v.level == 0) & s.features.p9 & s.pmuserenr.uen
 }
 
-// The bits of x below HPMN, where it binds.
-fn below_hpmn(v: View, x: u64) -> u64
-    ensures { λ r. ⌜ r ≡ cond (upTo 1 v && el2Enabled v) (x % 2 ^ v .settings .mdcr2 .hpmn) x ⌝ }
-{
-    let s = v.settings;
-    if (v.level <= 1) & s.execution.el2enabled {
-        return bits::below(s.mdcr2.hpmn, x);
-    }
-    x
-}
-
-// The bits of PMSWINC's operand x that are not ignored.
+// The bits of PMSWINC's operand x that are not ignored and whose counters are enabled.
 fn add_mask(v: View, x: u64) -> u64
     ensures { λ r. ⌜ r ≡ addMask v x ⌝ }
 {
     let s = v.settings;
-    let reached = below_hpmn(v, bits::below(s.features.n, x % 0x80000000));
+    let implemented = bits::below(s.features.n, enabled::enabled_counters(s) & x);
+    let bound = s.execution.el2enabled & (v.level <= 1);
+    let reached = enabled::below_where(bound, s.mdcr2.hpmn, implemented);
     if pmuacr_binds(v) & !s.pmuserenr.sw {
         return reached & s.pmuacr.p;
     }

@@ -19,7 +19,7 @@ isFlag f =
     || within 0x28 0x31 f
     || eqb f 0x33
     || within 0x35 0x36 f
-    || within 0x38 0x3C f
+    || within 0x38 0x3E f
 
 -- MODEL F2 to F16, F21 and F22: the kinds of fields, by their numbers, and the largest value of each: one bit; N and HPMN; the P
 -- bits; the counter enables; the overflow flags; event numbers; counters

@@ -72,11 +72,12 @@ storePmuserenr f v s =
 abbrev pub storeHcr : ℕ → ℕ → Hcr → Hcr
 storeHcr f v s = record { e2h = flag 0x24 f v (s .e2h); tge = flag 0x25 f v (s .tge) }
 
--- MODEL F6: fields 26, 27 and 36
+-- MODEL F6: fields 26, 27, 36 and 3E
 unfoldable pub storeMdcr2 : ℕ → ℕ → Mdcr2 → Mdcr2
 storeMdcr2 f v s =
     record {
       tpm = flag 0x26 f v (s .tpm);
+      hpme = flag 0x3E f v (s .hpme);
       hlp = flag 0x36 f v (s .hlp);
       hpmn = number 0x27 f v (s .hpmn);
     }
@@ -106,9 +107,9 @@ storeHdfgwtr f v s =
 unfoldable pub storePmuacr : ℕ → ℕ → Pmuacr → Pmuacr
 storePmuacr f v s = record { p = number 0x32 f v (s .p); f0 = flag 0x33 f v (s .f0) }
 
--- MODEL F21: field 35
+-- MODEL F21: fields 35 and 3D
 abbrev pub storePmcr : ℕ → ℕ → Pmcr → Pmcr
-storePmcr f v s = record { lp = flag 0x35 f v (s .lp) }
+storePmcr f v s = record { e = flag 0x3D f v (s .e); lp = flag 0x35 f v (s .lp) }
 
 -- MODEL F13: fields 38 to 3C
 abbrev pub storeExternal : ℕ → ℕ → External → External
@@ -121,7 +122,7 @@ storeExternal f v s =
       softwarelock = flag 0x3C f v (s .softwarelock);
     }
 
--- MODEL F2 to F13 and F21: fields 00 to 3C without the overflow flags; the counter enables (MODEL F12) are field 34
+-- MODEL F2 to F13 and F21: fields 00 to 3E without the overflow flags; the counter enables (MODEL F12) are field 34
 unfoldable pub storeSettings : ℕ → ℕ → Settings → Settings
 storeSettings f v s =
     record {

@@ -15,7 +15,7 @@ pub fn largest(f: u8) -> u64
         | ((0x28 <= f) & (f <= 0x31))
         | (f == 0x33)
         | ((0x35 <= f) & (f <= 0x36))
-        | ((0x38 <= f) & (f <= 0x3C));
+        | ((0x38 <= f) & (f <= 0x3E));
     let count = (f == 0x0C) | (f == 0x27);
     let p_bits = f == 0x32;
     let enables = f == 0x34;

@@ -34,8 +34,8 @@ pub fn set(f: u8, v: u64, m: Machine) -> Outcome
         settings: store::settings(settings, f, v),
         events: store::events(events, f, v),
         counters: store::counters(counters, f, v),
-        instructions: store::pick(f == 0x7F, v, m.instructions),
-        ovs: store::pick(f == 0x37, v, m.ovs),
+        instructions: bits::pick(f == 0x7F, v, m.instructions),
+        ovs: bits::pick(f == 0x37, v, m.ovs),
     };
     Outcome {
         answer: Answer::Ok,

@@ -1,7 +1,6 @@
 // The record with one field stored, by the field's number: each part is made anew, in which the field with that number takes
 // the value and every other one stays. Nothing is tested here (set.rt).
 ghost use mathlib.Core.Path.{_≡_};
-ghost use mathlib.Core.Bool.{cond};
 ghost use Rattle.fields.specs.Store.{storeFeatures, storeExecution, storePmcr, storePmuserenr, storeHcr, storeMdcr2};
 ghost use Rattle.fields.specs.Store.{storeMdcr3, storeScr, storeHdfgrtr, storeHdfgwtr, storePmuacr, storeExternal};
 ghost use Rattle.fields.specs.Store.{storeSettings, storeList};
@@ -20,18 +19,11 @@ use machine::Pmuserenr;
 use machine::Scr;
 use machine::Settings;
 
-// a where the test holds, else b. (`select` in the crate `traps` says the same of bools: one function cannot serve both types.)
-pub fn pick(test: bool, a: u64, b: u64) -> u64
-    ensures { λ r. ⌜ r ≡ cond test a b ⌝ }
-{
-    if test { a } else { b }
-}
-
 fn features(s: Features, f: u8, v: u64) -> Features
     ensures { λ r. ⌜ r ≡ storeFeatures f v s ⌝ }
 {
     let on = v == 1;
-    let n = pick(f == 0x0C, v, s.n);
+    let n = bits::pick(f == 0x0C, v, s.n);
     Features {
         pmuv3: ((f == 0x00) & on) | ((f != 0x00) & s.pmuv3),
         p5: ((f == 0x01) & on) | ((f != 0x01) & s.p5),
@@ -65,6 +57,7 @@ fn pmcr(s: Pmcr, f: u8, v: u64) -> Pmcr
 {
     let on = v == 1;
     Pmcr {
+        e: ((f == 0x3D) & on) | ((f != 0x3D) & s.e),
         lp: ((f == 0x35) & on) | ((f != 0x35) & s.lp),
     }
 }
@@ -96,9 +89,10 @@ fn mdcr2(s: Mdcr2, f: u8, v: u64) -> Mdcr2
     ensures { λ r. ⌜ r ≡ storeMdcr2 f v s ⌝ }
 {
     let on = v == 1;
-    let hpmn = pick(f == 0x27, v, s.hpmn);
+    let hpmn = bits::pick(f == 0x27, v, s.hpmn);
     Mdcr2 {
         tpm: ((f == 0x26) & on) | ((f != 0x26) & s.tpm),
+        hpme: ((f == 0x3E) & on) | ((f != 0x3E) & s.hpme),
         hlp: ((f == 0x36) & on) | ((f != 0x36) & s.hlp),
         hpmn: hpmn,
     }
@@ -149,7 +143,7 @@ fn pmuacr(s: Pmuacr, f: u8, v: u64) -> Pmuacr
     ensures { λ r. ⌜ r ≡ storePmuacr f v s ⌝ }
 {
     let on = v == 1;
-    let p = pick(f == 0x32, v, s.p);
+    let p = bits::pick(f == 0x32, v, s.p);
     Pmuacr {
         p: p,
         f0: ((f == 0x33) & on) | ((f != 0x33) & s.f0),
@@ -196,7 +190,7 @@ pub fn settings(s: Settings, f: u8, v: u64) -> Settings
         hdfgrtr: hdfgrtr(hdfgrtr0, f, v),
         hdfgwtr: hdfgwtr(hdfgwtr0, f, v),
         pmuacr: pmuacr(pmuacr0, f, v),
-        cnten: pick(f == 0x34, v, s.cnten),
+        cnten: bits::pick(f == 0x34, v, s.cnten),
         external: external(external0, f, v),
     }
 }

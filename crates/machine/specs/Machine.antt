@@ -32,10 +32,10 @@ freshSettings =
     record {
       features = freshFeatures;
       execution = record { el2enabled = false; halted = false; sdd = false };
-      pmcr = record { lp = false };
+      pmcr = record { e = false; lp = false };
       pmuserenr = record { en = false; sw = false; er = false; uen = false; ir = false };
       hcr = record { e2h = false; tge = false };
-      mdcr2 = record { tpm = false; hlp = false; hpmn = 0 };
+      mdcr2 = record { tpm = false; hpme = false; hlp = false; hpmn = 0 };
       mdcr3 = record { tpm = false; enpm2 = false };
       scr = record { fgten = false; fgten2 = false };
       hdfgrtr = record { pmevcntrn = false; npmicntr = false };

@@ -81,20 +81,26 @@ pub const FRESH_HCR: Hcr = Hcr {
 
 // PMCR_EL0.
 pub struct Pmcr {
+    pub e: bool,
     pub lp: bool,
 }
 
-pub const FRESH_PMCR: Pmcr = Pmcr { lp: false };
+pub const FRESH_PMCR: Pmcr = Pmcr {
+    e: false,
+    lp: false,
+};
 
 // MDCR_EL2.
 pub struct Mdcr2 {
     pub tpm: bool,
+    pub hpme: bool,
     pub hlp: bool,
     pub hpmn: u64,
 }
 
 pub const FRESH_MDCR2: Mdcr2 = Mdcr2 {
     tpm: false,
+    hpme: false,
     hlp: false,
     hpmn: 0,
 };

@@ -13,7 +13,8 @@ use Rattle.rules.specs.declared.Place.the-variants.{Counter, Instruction
 use Rattle.rules.specs.declared.Register.{Register}
 use Rattle.rules.specs.declared.Register.the-variants.{Pmevcntr, Pmswinc, Pmicntr, Other}
 use Rattle.rules.specs.Word.{decode, written}
-use Rattle.rules.specs.Traps.{atOrAboveHpmn, counterRules, pmevcntrStop}
+use Rattle.rules.specs.Traps.{counterRules, pmevcntrStop}
+use Rattle.rules.specs.Ranges.{counterEnabled}
 use Rattle.rules.specs.Permitted.{denied, readOnly, deniedF0, readOnlyIr, ignored, addMask, pmswincAccess}
 use Rattle.rules.specs.Step.{undefinedAtOnce, permitted, decideRegister, decide}
 use Rattle.rules.proofs.Touches.{touches, other-place, denied-place}
@@ -48,7 +49,9 @@ module _ (v : View) (n : ℕ) (w x : ℕ) where
   unfolding addMask
   not-added e =
       let y = written (decode w) x in
-      bit-off 31 (λ m. bit m y && not (ignored v m)) n (ap (λ b. bit n y && not b) e ∙ and-false (bit n y))
+      let on : ℕ → Bool = counterEnabled (v .settings) in
+      bit-off 31 (λ m. bit m y && not (ignored v m) && on m) n
+      (ap (λ b. bit n y && not b && on n) e ∙ ap (λ b. b && on n) (and-false (bit n y)))
 
 -- from EL0 and EL1 with EL2 enabled, no decision touches a counter at or above HPMN
 module _
@@ -58,7 +61,7 @@ module _
   unfolding decideRegister pmevcntrStop counterRules
   trapped i x m q =
       through-cond (Counter n) (undefinedAtOnce v (Pmevcntr m) (i .read)) _ _ refl
-      (stopped-by (Counter n) 4 (i .syndrome) v _ _ (atOrAboveHpmn v m) _ (rw (q, el2, low, above)))
+      (stopped-by (Counter n) 4 (i .syndrome) v _ _ _ _ (rw (q, el2, low, above)))
 
   above-ignored : ignored v n ≡ true
   above-ignored = rw (low, el2, above, or-true)

@@ -1,5 +1,6 @@
 -- The claims of noninterference are not empty: records that differ in one hidden counter and meet all that a claim asks for, and
--- what it says of them. Counter 5 is at or above HPMN and has no P bit; F0 is 0. And records that differ in an overflow flag.
+-- what it says of them. Counter 5 is at or above HPMN and has no P bit; F0 is 0; every event counter is enabled. And records
+-- that differ in an overflow flag.
 use Prim.Native.Nat.{ℕ, zero, suc, _≤_}
 use mathlib.Core.Bool.{Bool, true, false, false≢true}
 use mathlib.Core.List.{List, [], _∷_}
@@ -9,7 +10,7 @@ use Rattle.fields.specs.Largest.{largest}
 use Rattle.fields.specs.Set.{set}
 use Rattle.fields.specs.Store.{store, storeSettings, storeFeatures, storeMdcr2, storePmuacr}
 use Rattle.machine.specs.declared.Machine.{Machine}
-use Rattle.rules.specs.Example.{setAll, usual}
+use Rattle.rules.specs.Example.{setAll, countersOn, usual}
 use Rattle.rules.specs.Isolation.{Start, Isolated, fromLevels, fromHpmn, withoutP, instructionCounter}
 use Rattle.rules.specs.OverflowClaims.{AlikeButOvs}
 use Rattle.rules.specs.Step.{Access, run}
@@ -18,19 +19,19 @@ use Rattle.rules.proofs.OverflowClaims.{overflow-claims}
 use Rattle.state.specs.State.{viewOf, tooLarge, refusals, verdictOf}
 
 one : Machine
-one = setAll ((0x23, 1) ∷ (0x65, 1) ∷ (0x7F, 1) ∷ []) usual
+one = setAll (countersOn ((0x23, 1) ∷ (0x65, 1) ∷ (0x7F, 1) ∷ [])) usual
 
 -- another value in counter 5
 two : Machine
-two = setAll ((0x23, 1) ∷ (0x65, 2) ∷ (0x7F, 1) ∷ []) usual
+two = setAll (countersOn ((0x23, 1) ∷ (0x65, 2) ∷ (0x7F, 1) ∷ [])) usual
 
 -- another value in PMICNTR
 three : Machine
-three = setAll ((0x23, 1) ∷ (0x65, 1) ∷ (0x7F, 2) ∷ []) usual
+three = setAll (countersOn ((0x23, 1) ∷ (0x65, 1) ∷ (0x7F, 2) ∷ [])) usual
 
 -- another overflow flag
 four : Machine
-four = setAll ((0x23, 1) ∷ (0x65, 1) ∷ (0x7F, 1) ∷ (0x37, 0x20) ∷ []) usual
+four = setAll (countersOn ((0x23, 1) ∷ (0x65, 1) ∷ (0x7F, 1) ∷ (0x37, 0x20) ∷ [])) usual
 
 start-one : Start one
 unfolding one largest set store storeSettings storeFeatures storeMdcr2 storePmuacr setAll usual viewOf tooLarge refusals verdictOf

@@ -30,6 +30,7 @@ use Rattle.rules.specs.Worked.{worked, misreadings}
 use Rattle.rules.specs.ExamplesTraps.{trapExamples}
 use Rattle.rules.specs.ExamplesIcntr.{icntrExamples}
 use Rattle.rules.specs.ExamplesPermitted.{permittedExamples}
+use Rattle.rules.specs.ExamplesEnabled.{enabledExamples}
 use Rattle.rules.specs.ExamplesExternal.{externalExamples}
 use Rattle.rules.specs.ExamplesOverflow.{overflowExamples}
 use Rattle.rules.specs.ExamplesState.{stateExamples, ovsLimits, withLimits, limitsActual, limitsExpected}
@@ -47,7 +48,7 @@ unfolding
     pmevcntrStop pmswincStop pmicntrStop placeAccess addMask decideRegister decide incremented apply step fromBits
     shownOf raised lowered reach effectOf externalRead externalWrite tick
     perform performAll setAll usual start actual expected worked misreadings
-    trapExamples icntrExamples permittedExamples externalExamples overflowExamples stateExamples further
+    trapExamples icntrExamples permittedExamples enabledExamples externalExamples overflowExamples stateExamples further
 hold = (refl, refl, refl)
 
 -- MODEL P1 to P11
@@ -74,5 +75,5 @@ limits-hold = refl
 pub settings-valid : valid usualSettings && allValid (worked ++ misreadings ++ further) ≡ true
 unfolding
     largest valid allValid worked misreadings
-    trapExamples icntrExamples permittedExamples externalExamples overflowExamples stateExamples further
+    trapExamples icntrExamples permittedExamples enabledExamples externalExamples overflowExamples stateExamples further
 settings-valid = refl

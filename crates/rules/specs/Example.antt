@@ -89,6 +89,10 @@ expected e = record { answers = e .answers; machine = setAll (e .after) (start e
 abbrev pub on : List ℕ → List (ℕ × ℕ)
 on fields = map (λ f. (f, 1)) fields
 
+-- MODEL P0 and G14: these settings, and every event counter enabled
+abbrev pub countersOn : List (ℕ × ℕ) → List (ℕ × ℕ)
+countersOn given = (0x34, 0x7FFFFFFF) ∷ (0x3D, 1) ∷ (0x3E, 1) ∷ given
+
 -- MODEL P0: an example by its parts
 abbrev pub shows : List (ℕ × ℕ) → ℕ → List Action → List Answer → List (ℕ × ℕ) → Example
 shows g l d r s = record { given = g; level = l; actions = d; answers = r; after = s }

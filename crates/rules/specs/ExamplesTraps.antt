@@ -3,7 +3,7 @@
 use mathlib.Core.List.{List, [], _∷_}
 use Rattle.answer.specs.declared.Answer.{Answer}
 use Rattle.answer.specs.declared.Level.the-variants.{El1, El2, El3}
-use Rattle.rules.specs.Example.{Example, on, shows, answers, trap, gives, swinc, mrs3, msr3, mrs4}
+use Rattle.rules.specs.Example.{Example, on, countersOn, shows, answers, trap, gives, swinc, mrs3, msr3, mrs4}
 use Rattle.rules.specs.Example.Action.{access}
 
 -- MODEL P12: for U1 to U4 and T1 to T11
@@ -37,13 +37,13 @@ trapExamples =
     ∷ answers ((0x20, 0) ∷ (0x2C, 1) ∷ (0x26, 1) ∷ []) 0 mrs4 (trap El1 0x6238F851)
     ∷ answers ((0x20, 0) ∷ (0x63, 9) ∷ []) 1 mrs3 (gives 9)
     -- MODEL T3, T8: each bit for its own access
-    ∷ shows ((0x2C, 1) ∷ []) 1 (mrs3 ∷ msr3 5 ∷ swinc 8 ∷ []) (trap El2 0x6236F851 ∷ Answer.Ok ∷ Answer.Ok ∷ []) ((0x63, 6) ∷ [])
-    ∷ shows ((0x2D, 1) ∷ (0x63, 9) ∷ [])
+    ∷ shows (countersOn ((0x2C, 1) ∷ [])) 1 (mrs3 ∷ msr3 5 ∷ swinc 8 ∷ []) (trap El2 0x6236F851 ∷ Answer.Ok ∷ Answer.Ok ∷ []) ((0x63, 6) ∷ [])
+    ∷ shows (countersOn ((0x2D, 1) ∷ (0x63, 9) ∷ []))
     1
     (mrs3 ∷ msr3 5 ∷ swinc 8 ∷ [])
     (gives 9 ∷ trap El2 0x6236F850 ∷ Answer.Ok ∷ [])
     ((0x63, 10) ∷ [])
-    ∷ shows ((0x2E, 1) ∷ (0x63, 9) ∷ [])
+    ∷ shows (countersOn ((0x2E, 1) ∷ (0x63, 9) ∷ []))
     1
     (mrs3 ∷ msr3 5 ∷ swinc 8 ∷ [])
     (gives 9 ∷ Answer.Ok ∷ trap El2 0x6238E438 ∷ [])
@@ -76,7 +76,7 @@ trapExamples =
     ∷ answers (on (0x0A ∷ 0x11 ∷ 0x28 ∷ [])) 2 mrs3 (trap El3 0x6236F851)
     ∷ answers ((0x28, 1) ∷ (0x63, 9) ∷ []) 1 mrs3 (gives 9)
     -- MODEL T1 to T6: none is for level 3
-    ∷ shows ((0x20, 0) ∷ (0x65, 9) ∷ on (0x0A ∷ 0x0B ∷ 0x11 ∷ 0x12 ∷ 0x26 ∷ 0x28 ∷ 0x2A ∷ 0x2C ∷ 0x2E ∷ []))
+    ∷ shows (countersOn ((0x20, 0) ∷ (0x65, 9) ∷ on (0x0A ∷ 0x0B ∷ 0x11 ∷ 0x12 ∷ 0x26 ∷ 0x28 ∷ 0x2A ∷ 0x2C ∷ 0x2E ∷ [])))
     3
     (access 0xD53BE8A2 0 ∷ swinc 32 ∷ [])
     (gives 9 ∷ Answer.Ok ∷ [])

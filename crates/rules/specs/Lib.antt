@@ -1,7 +1,9 @@
--- The rules on accesses in the order of docs/MODEL.md: the instruction word, the orders of traps, permitted accesses, overflow,
--- the step, external accesses and the tick, examples, the claim of isolation, and those on the overflow flags.
+-- The rules on accesses in the order of docs/MODEL.md: the instruction word, the orders of traps, the ranges of counters,
+-- permitted accesses, overflow, the step, external accesses and the tick, examples, the claim of isolation, and those on the
+-- overflow flags.
 pub mod Word
 pub mod Traps
+pub mod Ranges
 pub mod Permitted
 pub mod Overflow
 pub mod Apply
@@ -12,6 +14,7 @@ pub mod Worked
 pub mod ExamplesTraps
 pub mod ExamplesIcntr
 pub mod ExamplesPermitted
+pub mod ExamplesEnabled
 pub mod ExamplesExternal
 pub mod ExamplesOverflow
 pub mod ExamplesState

@@ -4,6 +4,7 @@ use mathlib.Core.Bool.{Bool, cond, not, _&&_, _||_}
 use lib.Dec.{leb}
 use Rattle.bits.specs.Bits.{bit, fromBits}
 use Rattle.machine.specs.declared.Settings.{Settings}
+use Rattle.rules.specs.Ranges.{longBit}
 
 -- MODEL G1 and G11: 64 bits or 32: those of an event counter, with p5 or without it, and those out of which it overflows
 abbrev pub width : Bool → ℕ
@@ -16,15 +17,6 @@ plusOne k y = (y + 1) % 2 ^ k
 -- MODEL G11 and K3: one more carries out of the lowest k bits
 abbrev pub carries : ℕ → ℕ → Bool
 carries k y = leb (2 ^ k) (y % 2 ^ k + 1)
-
--- MODEL G12: event counter m is in the second range: from HPMN on, where EL2 is implemented. T5 and the ignored bits of PMSWINC
--- (`atOrAboveHpmn`) ask whether EL2 is enabled
-abbrev pub inSecondRange : Settings → ℕ → Bool
-inSecondRange s m = s .features .el2 && leb (s .mdcr2 .hpmn) m
-
--- MODEL G12: the long bit of event counter m
-abbrev pub longBit : Settings → ℕ → Bool
-longBit s m = cond (inSecondRange s m) (s .mdcr2 .hlp) (s .pmcr .lp)
 
 -- MODEL G11: the bits out of which event counter m overflows; without p5 the long bit is not looked at
 abbrev pub overflowWidth : Settings → ℕ → ℕ

@@ -12,7 +12,8 @@ use Rattle.rules.specs.declared.Instruction.{Instruction}
 use Rattle.rules.specs.declared.Place.{Place}
 use Rattle.rules.specs.declared.Place.the-variants.{Counter, Instructions}
 use Rattle.rules.specs.Word.{written}
-use Rattle.rules.specs.Traps.{atEl0, upTo, el2Enabled, atOrAboveHpmn}
+use Rattle.rules.specs.Ranges.{counterEnabled}
+use Rattle.rules.specs.Traps.{atEl0, inaccessible}
 
 -- MODEL G2 and G4 to G7: a permitted access of a place. Where it is denied, it reads 0 and ignores writes; where it is
 -- read-only, it ignores writes
@@ -54,16 +55,16 @@ pmicntrAccess v i x = placeAccess (deniedF0 v) (readOnlyIr v) Instructions i x
 abbrev pub holdsBack : View → Bool
 holdsBack v = pmuacrBinds v && not (v .settings .pmuserenr .sw)
 
--- MODEL G9: bit m of PMSWINC is ignored: there is no such counter, EL2 keeps it, or PMUACR holds it back
+-- MODEL G9: bit m of PMSWINC is ignored: there is no such counter, it is inaccessible, or PMUACR holds it back
 abbrev pub ignored : View → ℕ → Bool
 ignored v m =
     leb (v .settings .features .n) m
-    || (upTo 1 v && el2Enabled v && atOrAboveHpmn v m)
+    || inaccessible v m
     || (holdsBack v && not (bit m (v .settings .pmuacr .p)))
 
--- MODEL G8 and G9: the operand's bits that are not ignored, of the 31 event counters
+-- MODEL G8, G9 and G14: the operand's bits that are not ignored and whose counters are enabled, of the 31 event counters
 unfoldable pub addMask : View → ℕ → ℕ
-addMask v x = fromBits 31 (λ m. bit m x && not (ignored v m))
+addMask v x = fromBits 31 (λ m. bit m x && not (ignored v m) && counterEnabled (v .settings) m)
 
 -- MODEL G8: a permitted write of PMSWINC
 abbrev pub pmswincAccess : View → Instruction → ℕ → Decision

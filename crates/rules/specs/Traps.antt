@@ -17,7 +17,7 @@ upTo l v = leb (v .level) l
 abbrev pub atEl0 : View → Bool
 atEl0 v = eqb (v .level) 0
 
--- MODEL F3: EL2 is enabled, which T2 to T5, I2 to I4 and G9 look at. R12 to R14 and G12 look at whether it is implemented
+-- MODEL F3: EL2 is enabled, which T2 to T5, I2 to I4 and G9 look at. R12 to R14, G12 and G14 look at whether it is implemented
 abbrev pub el2Enabled : View → Bool
 el2Enabled v = v .settings .execution .el2enabled
 
@@ -55,9 +55,11 @@ rule3 v trapBit =
 abbrev pub rule4 : View → Bool
 rule4 v = el2Enabled v && upTo 1 v && v .settings .mdcr2 .tpm
 
--- MODEL T5: a counter at or above HPMN; without FGT too, where Arm's page 001 leaves a choice
-abbrev pub rule5 : View → Bool → Bool
-rule5 v above = el2Enabled v && upTo 1 v && above
+-- MODEL T5 and G9: event counter m is inaccessible from the level: at EL0 and EL1 from HPMN on, while EL2 is enabled. Arm: m is
+-- not below GetNumEventCountersAccessible(). T5 holds without FGT too, where Arm's page 001 leaves a choice. Which bits control
+-- a counter is `inSecondRange` (Ranges.antt), which asks whether EL2 is implemented, at every level
+abbrev pub inaccessible : View → ℕ → Bool
+inaccessible v m = el2Enabled v && upTo 1 v && leb (v .settings .mdcr2 .hpmn) m
 
 -- MODEL T6 and I6: MDCR_EL3.TPM
 abbrev pub rule6 : View → Bool
@@ -72,24 +74,20 @@ unfoldable pub stopAtEl3 : View → Stop
 stopAtEl3 v = cond (haltedSdd v) Stop.Undef (Stop.Trap El3)
 
 -- MODEL T1 to T6: each rule's test and its stop, in order, from whether PMUSERENR has disabled the access at EL0, the
--- fine-grained bit of the register and direction, and whether m is HPMN or more
+-- fine-grained bit of the register and direction, and whether the counter is inaccessible, which is T5's test
 unfoldable pub counterRules : View → Bool → Bool → Bool → List (Bool × Stop)
-counterRules v disabled trapBit above =
+counterRules v disabled trapBit rule5 =
     (rule1 v, Stop.Undef)
     ∷ (rule2 v disabled, disabledTrap v)
     ∷ (rule3 v trapBit, Stop.Trap El2)
     ∷ (rule4 v, Stop.Trap El2)
-    ∷ (rule5 v above, Stop.Trap El2)
+    ∷ (rule5, Stop.Trap El2)
     ∷ (rule6 v, stopAtEl3 v)
     ∷ []
 
 -- MODEL T1 to T6: the first that applies
 unfoldable pub counterOrder : View → Bool → Bool → Bool → Stop
-counterOrder v disabled trapBit above = first (counterRules v disabled trapBit above) Stop.Pass
-
--- MODEL T5: m is HPMN or more
-abbrev pub atOrAboveHpmn : View → ℕ → Bool
-atOrAboveHpmn v m = leb (v .settings .mdcr2 .hpmn) m
+counterOrder v disabled trapBit rule5 = first (counterRules v disabled trapBit rule5) Stop.Pass
 
 -- MODEL T7 and T8: the order for PMEVCNTR<m>, with what enables it at EL0 and its fine-grained bits
 unfoldable pub pmevcntrStop : View → Bool → ℕ → Stop
@@ -97,7 +95,7 @@ pmevcntrStop v read m =
     counterOrder v
     (cond read (not (v .settings .pmuserenr .en) && not (v .settings .pmuserenr .er)) (not (v .settings .pmuserenr .en)))
     (cond read (v .settings .hdfgrtr .pmevcntrn) (v .settings .hdfgwtr .pmevcntrn))
-    (atOrAboveHpmn v m)
+    (inaccessible v m)
 
 -- MODEL T7 and T8: the order for PMSWINC, with what enables it at EL0 and its fine-grained bit. T5 is not for it
 unfoldable pub pmswincStop : View → Stop

@@ -4,7 +4,8 @@ use mathlib.Core.List.{List, [], _∷_}
 use Rattle.answer.specs.declared.Answer.{Answer}
 use Rattle.answer.specs.declared.Level.the-variants.{El1, El2, El3}
 use Rattle.answer.specs.declared.Refusal.the-variants.{HpmnAboveN}
-use Rattle.rules.specs.Example.{Example, shows, answers, changes, trap, gives, swinc, mrs3, msr3, mrs4, mrsIcntr, msrIcntr}
+use Rattle.rules.specs.Example.{Example, countersOn, shows, answers, changes, trap, gives}
+use Rattle.rules.specs.Example.{swinc, mrs3, msr3, mrs4, mrsIcntr, msrIcntr}
 use Rattle.rules.specs.Example.Action.{access, read, write}
 
 -- MODEL P1 to P11. Where the table gives no value, the counters that are read, and those that a counter write must leave alone,
@@ -23,16 +24,16 @@ worked =
     -- MODEL P5
     ∷ answers ((0x23, 1) ∷ (0x22, 1) ∷ (0x32, 8) ∷ (0x63, 9) ∷ []) 0 (msr3 5) Answer.Ok
     -- MODEL P6
-    ∷ changes [] 1 (swinc 0x18) ((0x63, 1) ∷ [])
-    ∷ changes [] 2 (swinc 0x18) ((0x63, 1) ∷ (0x64, 1) ∷ [])
+    ∷ changes (countersOn []) 1 (swinc 0x18) ((0x63, 1) ∷ [])
+    ∷ changes (countersOn []) 2 (swinc 0x18) ((0x63, 1) ∷ (0x64, 1) ∷ [])
     -- MODEL P7
-    ∷ changes ((0x60, 0xFFFFFFFF) ∷ []) 1 (swinc 1) ((0x60, 0x100000000) ∷ (0x37, 1) ∷ [])
-    ∷ changes ((0x01, 0) ∷ (0x02, 0) ∷ (0x60, 0xFFFFFFFF) ∷ []) 1 (swinc 1) ((0x60, 0) ∷ (0x37, 1) ∷ [])
+    ∷ changes (countersOn ((0x60, 0xFFFFFFFF) ∷ [])) 1 (swinc 1) ((0x60, 0x100000000) ∷ (0x37, 1) ∷ [])
+    ∷ changes (countersOn ((0x01, 0) ∷ (0x02, 0) ∷ (0x60, 0xFFFFFFFF) ∷ [])) 1 (swinc 1) ((0x60, 0) ∷ (0x37, 1) ∷ [])
     -- MODEL P8
     ∷ answers ((0x20, 0) ∷ []) 0 (access 0xD51B9C81 0) (trap El1 0x6238E438)
     ∷ answers ((0x20, 0) ∷ (0x25, 1) ∷ []) 0 (access 0xD51B9C81 0) (trap El2 0x6238E438)
     -- MODEL P9
-    ∷ changes ((0x23, 1) ∷ (0x21, 1) ∷ (0x20, 0) ∷ []) 0 (swinc 8) ((0x63, 1) ∷ [])
+    ∷ changes (countersOn ((0x23, 1) ∷ (0x21, 1) ∷ (0x20, 0) ∷ [])) 0 (swinc 8) ((0x63, 1) ∷ [])
     -- MODEL P10
     ∷ answers ((0x27, 6) ∷ (0x64, 7) ∷ []) 1 mrs4 (gives 7)
     ∷ answers ((0x27, 7) ∷ (0x7F, 5) ∷ []) 1 mrs4 (Answer.Refused HpmnAboveN)
@@ -51,15 +52,15 @@ misreadings =
     -- MODEL Q2: from HPMN on a counter traps to EL2, and below it to EL3
     shows ((0x0A, 1) ∷ (0x28, 1) ∷ []) 1 (mrs4 ∷ mrs3 ∷ []) (trap El2 0x6238F851 ∷ trap El3 0x6236F851 ∷ []) []
     -- MODEL Q2: a bit of PMSWINC at HPMN or above is ignored and does not trap
-    ∷ answers [] 0 (swinc 0x10) Answer.Ok
+    ∷ answers (countersOn []) 0 (swinc 0x10) Answer.Ok
     -- MODEL Q3: HPMN does not count while EL2 is not enabled, for an access or for a bit of PMSWINC
-    ∷ shows ((0x10, 0) ∷ (0x65, 41) ∷ [])
+    ∷ shows (countersOn ((0x10, 0) ∷ (0x65, 41) ∷ []))
     1
     (access 0xD53BE8A2 0 ∷ swinc 0x20 ∷ [])
     (gives 41 ∷ Answer.Ok ∷ [])
     ((0x65, 42) ∷ [])
     -- MODEL Q4: PMUACR does not bind level 1: a read, a write and an increment of a counter, and PMICNTR
-    ∷ shows ((0x23, 1) ∷ (0x63, 9) ∷ [])
+    ∷ shows (countersOn ((0x23, 1) ∷ (0x63, 9) ∷ []))
     1
     (mrs3 ∷ msr3 5 ∷ swinc 8 ∷ [])
     (gives 9 ∷ Answer.Ok ∷ Answer.Ok ∷ [])

@@ -36,7 +36,7 @@ pub enum Place {
 }
 
 // All that an access is to do: answer and change nothing; read one place into Rt; write one place; or add 1 to event counters
-// by a mask, in which the bits that are ignored are 0.
+// by a mask, in which the bits that are ignored, and those of counters that are not enabled, are 0.
 pub enum Decision {
     Says(Answer),
     Read { place: Place, rt: u8 },

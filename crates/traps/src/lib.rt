@@ -33,10 +33,10 @@ fn stop_at_el3(v: View) -> Stop
     Stop::Trap(Level::El3)
 }
 
-// The order for PMEVCNTR and PMSWINC, from whether PMUSERENR shuts it out at EL0, the fine-grained bit, and whether
-// m is HPMN or more: MODEL T1 to T6.
-fn counter_order(v: View, disabled: bool, trap_bit: bool, above: bool) -> Stop
-    ensures { λ r. ⌜ r ≡ counterOrder v disabled «trap_bit» above ⌝ }
+// The order for PMEVCNTR and PMSWINC, from whether PMUSERENR shuts it out at EL0, the fine-grained bit, and T5's test,
+// whether the counter is inaccessible: MODEL T1 to T6.
+fn counter_order(v: View, disabled: bool, trap_bit: bool, rule5: bool) -> Stop
+    ensures { λ r. ⌜ r ≡ counterOrder v disabled «trap_bit» rule5 ⌝ }
 {
     let level = v.level;
     let s = v.settings;
@@ -53,7 +53,6 @@ fn counter_order(v: View, disabled: bool, trap_bit: bool, above: bool) -> Stop
         & (!el3 | s.scr.fgten)
         & trap_bit;
     let rule4 = el2 & (level <= 1) & s.mdcr2.tpm;
-    let rule5 = el2 & (level <= 1) & above;
     let rule6 = el3 & (level <= 2) & s.mdcr3.tpm;
     if rule1 {
         return Stop::Undef;
@@ -83,7 +82,8 @@ pub fn pmevcntr_stop(v: View, read: bool, m: u64) -> Stop
     let s = v.settings;
     let disabled = select(read, !s.pmuserenr.en & !s.pmuserenr.er, !s.pmuserenr.en);
     let trap_bit = select(read, s.hdfgrtr.pmevcntrn, s.hdfgwtr.pmevcntrn);
-    counter_order(v, disabled, trap_bit, s.mdcr2.hpmn <= m)
+    let inaccessible = s.execution.el2enabled & (v.level <= 1) & (s.mdcr2.hpmn <= m);
+    counter_order(v, disabled, trap_bit, inaccessible)
 }
 
 // The order of traps for PMSWINC.

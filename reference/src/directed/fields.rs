@@ -52,6 +52,10 @@ pub const LP: u8 = 0x35;
 pub const HLP: u8 = 0x36;
 pub const PMOVS: u8 = 0x37;
 
+// PMCR_EL0.E and MDCR_EL2.HPME.
+pub const PMCR_E: u8 = 0x3D;
+pub const HPME: u8 = 0x3E;
+
 // The external interface.
 pub const POWERED: u8 = 0x38;
 pub const DOUBLE_LOCK: u8 = 0x39;

@@ -3,7 +3,7 @@
 //! nothing else.
 
 use super::fields::*;
-use super::script::{Change, Kind, Script, PMCNTENSET, PMOVSCLR, PMSWINC};
+use super::script::{Change, Kind, Script, PMCNTENSET, PMOVSCLR, PMSWINC, RUNNING};
 use super::Session;
 
 /// Consistent, and every command passes at levels 0 and 1.
@@ -44,6 +44,7 @@ fn bits() -> impl Iterator<Item = u8> {
         .chain(TPM_EL3..=IR)
         .chain([PMUACR_F0, LP, HLP])
         .chain(POWERED..=SOFTWARE_LOCK)
+        .chain([PMCR_E, HPME])
 }
 
 /// What else is given, and the accesses that are tried. In all but the first
@@ -68,10 +69,14 @@ const ROWS: [Row; 15] = [
     ("ir-pmicntr-write", &[(IR, 1)], &[Kind::IcntrWrite]),
 ];
 
-/// The accesses of a row, under each flipped field.
+/// The accesses of a row, under each flipped field. For increments all counters
+/// are on, else E and HPME are flipped to 1.
 fn access_session(row: &Row) -> Vec<u8> {
     let (_, given, kinds) = row;
     let mut script = Script::new(&GIVEN);
+    if kinds.contains(&Kind::Swinc) {
+        script.put(&RUNNING);
+    }
     script.put(given);
     for field in bits() {
         script.with_flipped(field, |s| {
@@ -107,7 +112,8 @@ fn external_session(software_lock: u64) -> Vec<u8> {
 /// and a read of the flags. P9 is 0, so that P5 can be flipped.
 fn overflow_session(level: u8) -> Vec<u8> {
     let mut script = Script::new(&GIVEN);
-    script.put(&[(P9, 0), (LEVEL, level as u64)]);
+    script.put(&RUNNING);
+    script.put(&[(ENABLES, ALL_ENABLES), (P9, 0), (LEVEL, level as u64)]);
     for field in bits() {
         script.put(&[(COUNTER + 3, 0xFFFF_FFFF), (COUNTER + 4, 0xFFFF_FFFF)]);
         script.put(&[(INSTRUCTIONS, u64::MAX), (PMOVS, 0)]);

@@ -87,7 +87,7 @@ fn cut_sessions() -> Vec<Session> {
 fn unused_session(value: u64) -> Vec<u8> {
     let mut script = Script::new(&GIVEN);
     let unused =
-        (0x0D..=0x0F).chain(0x13..=0x1F).chain(0x3D..=0x3F).chain(0x5F..=0x5F).chain(0x80..=0xFF);
+        (0x0D..=0x0F).chain(0x13..=0x1F).chain(0x3F..=0x3F).chain(0x5F..=0x5F).chain(0x80..=0xFF);
     for field in unused {
         script.set_refused(field, value);
     }

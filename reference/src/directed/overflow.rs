@@ -3,13 +3,20 @@
 //! none; ticks. The flags are read at PMOVSCLR, whose own rules are in pmovs.rs.
 
 use super::fields::*;
-use super::script::{Change, Script, PMOVSCLR, PMSWINC};
+use super::script::{Change, Script, PMOVSCLR, PMSWINC, RUNNING};
 use super::Session;
 use crate::generate::{counter_word, word};
 
 /// The flags can be read, and level 3 increments counters on both sides of
 /// HPMN.
 const GIVEN: [Change; 5] = [(ICNTR, 1), (EXT64, 1), (POWERED, 1), (ALLOWED, 1), (LEVEL, 3)];
+
+/// The same with all event counters on.
+fn running() -> Script {
+    let mut script = Script::counters(&GIVEN);
+    script.put(&RUNNING);
+    script
+}
 
 /// The settings of LP and HLP.
 const LONG: [[Change; 2]; 4] =
@@ -38,7 +45,7 @@ const WIDE_VALUES: [u64; 10] = [
 /// Counters 3 and 4, the last below HPMN and the first at it, from each value
 /// and with each setting of LP and HLP.
 fn carry_session(p5: u64, values: &[u64]) -> Vec<u8> {
-    let mut script = Script::counters(&GIVEN);
+    let mut script = running();
     script.put(&[(P9, 0), (P5, p5)]);
     for long in LONG {
         script.put(&long);
@@ -56,7 +63,7 @@ fn carry_session(p5: u64, values: &[u64]) -> Vec<u8> {
 /// A flag stays until it is cleared, and a later carry sets it anew, while the
 /// counter goes on in 64 bits.
 fn stays_session() -> Vec<u8> {
-    let mut script = Script::counters(&GIVEN);
+    let mut script = running();
     for lp in [0, 1] {
         script.set(LP, lp);
         for start in [NARROW - 1, 0x1_FFFF_FFFE, u64::MAX - 1] {
@@ -84,7 +91,7 @@ fn stays_session() -> Vec<u8> {
 /// Every counter has a flag of its own: at 32 bits without p5 and with it, and
 /// at 64.
 fn each_counter_session() -> Vec<u8> {
-    let mut script = Script::counters(&GIVEN);
+    let mut script = running();
     script.put(&[(P9, 0), (P5, 0), (N, 31), (HPMN, 16)]);
     let widths = [(0, 0, NARROW), (1, 0, 0x5_FFFF_FFFF), (1, 1, u64::MAX)];
     for (p5, long, value) in widths {
@@ -102,7 +109,7 @@ fn each_counter_session() -> Vec<u8> {
 /// third before one out of both, a third before none. Every other operand bit
 /// first, then the rest, then all again.
 fn several_session() -> Vec<u8> {
-    let mut script = Script::counters(&GIVEN);
+    let mut script = running();
     script.put(&[(N, 31), (HPMN, 16)]);
     let values = [NARROW, u64::MAX, 0x1F];
     for long in LONG {
@@ -121,7 +128,7 @@ fn several_session() -> Vec<u8> {
 
 /// Counters on both sides of every HPMN, each time with no flag set before.
 fn each_hpmn_session(given: &[Change]) -> Vec<u8> {
-    let mut script = Script::counters(&GIVEN);
+    let mut script = running();
     script.put(&[(HPMN0, 1), (N, 31)]);
     script.put(given);
     for hpmn in 0..=31u8 {
@@ -148,7 +155,7 @@ const EL2: [(&[Change], &[u8]); 3] = [
 
 /// Counters 3 to 5, HPMN being 4, with each setting of LP and HLP.
 fn el2_session() -> Vec<u8> {
-    let mut script = Script::counters(&GIVEN);
+    let mut script = running();
     for (changes, levels) in EL2 {
         script.put(changes);
         for &level in levels {
@@ -168,7 +175,7 @@ fn el2_session() -> Vec<u8> {
 /// A counter with another event number does not move and gets no flag; it
 /// keeps one that it has.
 fn event_session() -> Vec<u8> {
-    let mut script = Script::counters(&GIVEN);
+    let mut script = running();
     for event in [1, 2, 0x11, 0x100, 0x8000, 0xFFFF, 0] {
         for flags in [0, 4] {
             script.put(&[(EVENT + 2, event), (PMOVS, flags)]);
@@ -208,7 +215,7 @@ const IGNORED: [&[Change]; 14] = [
 /// Counters 0 to 6 all before a carry. The flags are read with N 31, so that
 /// none is hidden.
 fn ignored_session() -> Vec<u8> {
-    let mut script = Script::counters(&GIVEN);
+    let mut script = running();
     for case in IGNORED {
         script.set(PMOVS, 0);
         for m in 0..=6 {
@@ -244,8 +251,8 @@ const STOPPED: [(&[Change], u32); 10] = [
 
 /// None of them sets a flag; a tick does where it counts.
 fn stopped_session() -> Vec<u8> {
-    let mut script = Script::counters(&GIVEN);
-    script.put(&[(ENABLES, ENABLE_F0), (COUNTER, NARROW), (COUNTER + 3, NARROW)]);
+    let mut script = running();
+    script.put(&[(ENABLES, ALL_ENABLES), (COUNTER, NARROW), (COUNTER + 3, NARROW)]);
     for (case, stopped) in STOPPED {
         script.put(&[(PMOVS, 0), (INSTRUCTIONS, u64::MAX)]);
         script.with(case, |s| {

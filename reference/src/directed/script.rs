@@ -70,6 +70,10 @@ const COUNTERS: [Change; 10] = [
     (HPMN, 4),
 ];
 
+/// All event counters on, in both ranges, for sessions in which they move. The
+/// enables of bits 31 and 32 are 0.
+pub const RUNNING: [Change; 3] = [(ENABLES, ALL_P), (PMCR_E, 1), (HPME, 1)];
+
 /// A session in the making.
 pub struct Script {
     bytes: Vec<u8>,

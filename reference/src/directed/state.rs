@@ -34,6 +34,10 @@ const GIVEN: [Change; 23] = [
     (INSTRUCTIONS, 0x7777),
 ];
 
+/// Counters 0 and 3 are on, ticks count as before. The other enables are 0, so
+/// that an external write shows.
+const RUNNING: [Change; 3] = [(ENABLES, ENABLE_F0 | 9), (PMCR_E, 1), (HPME, 1)];
+
 /// What makes a refusal apply, and what is changed from there, one at a time.
 type Row = (&'static str, &'static [Change], &'static [&'static [Change]]);
 
@@ -152,6 +156,7 @@ fn battery(script: &mut Script) {
 fn row_session(row: &Row) -> Vec<u8> {
     let (_, applies, neighbours) = row;
     let mut script = Script::new(&GIVEN);
+    script.put(&RUNNING);
     script.with(applies, |script| {
         battery(script);
         for neighbour in neighbours.iter() {
@@ -215,27 +220,29 @@ fn both_directions(script: &mut Script, offset: u16) {
     script.external_read(offset);
 }
 
-/// The commands that test the record, one for each session of pairs.
-const COMMANDS: [(&str, fn(&mut Script)); 11] = [
-    ("counter-read", |s| s.probe(Kind::CounterRead, 3)),
-    ("counter-write", |s| s.access(counter_word(false, 3, 1), 0x99)),
-    ("pmswinc", |s| s.access(word(false, 9, 12, 4, 1), 9)),
-    ("pmicntr-read", |s| s.probe(Kind::IcntrRead, 0)),
-    ("pmicntr-write", |s| s.access(word(false, 9, 4, 0, 1), 0x8888)),
-    ("other-word", |s| s.access(0xD53B_E082, 0)),
-    ("external-read", |s| s.external_read(PMCNTENSET)),
-    ("external-write", |s| s.external_write(PMCNTENSET, 1 << 31)),
-    ("pmovsclr", |s| both_directions(s, PMOVSCLR)),
-    ("pmovsset", |s| both_directions(s, PMOVSSET)),
-    ("tick", |s| s.tick(0)),
+/// The commands that test the record, one for each session of pairs, and what
+/// is set so that they have an effect.
+const COMMANDS: [(&str, &[Change], fn(&mut Script)); 11] = [
+    ("counter-read", &[], |s| s.probe(Kind::CounterRead, 3)),
+    ("counter-write", &[], |s| s.access(counter_word(false, 3, 1), 0x99)),
+    ("pmswinc", &RUNNING, |s| s.access(word(false, 9, 12, 4, 1), 9)),
+    ("pmicntr-read", &[], |s| s.probe(Kind::IcntrRead, 0)),
+    ("pmicntr-write", &[], |s| s.access(word(false, 9, 4, 0, 1), 0x8888)),
+    ("other-word", &[], |s| s.access(0xD53B_E082, 0)),
+    ("external-read", &[], |s| s.external_read(PMCNTENSET)),
+    ("external-write", &[], |s| s.external_write(PMCNTENSET, 1 << 31)),
+    ("pmovsclr", &[], |s| both_directions(s, PMOVSCLR)),
+    ("pmovsset", &[], |s| both_directions(s, PMOVSSET)),
+    ("tick", &[], |s| s.tick(0)),
 ];
 
 /// MODEL V3: refusals together, so that the lowest number shows. R11, R12, R13,
 /// R15, R16 and R17 in all subsets that can be; then R14 in place of R12 and
 /// R13; then level 2.
-fn subsets_session(command: fn(&mut Script)) -> Vec<u8> {
+fn subsets_session(given: &[Change], command: fn(&mut Script)) -> Vec<u8> {
     let wide = (COUNTER + 30, 1 << 32);
     let mut script = Script::new(&GIVEN);
+    script.put(given);
     script.put(&[wide, (P9, 0), (HAVE_EL3, 0), (HPMN, 5)]);
     let shared: [Switch; 4] = [(LEVEL, 1, 3), (P5, 1, 0), (TGE, 0, 1), (PMUV3, 1, 0)];
     let mut first = shared.to_vec();
@@ -257,8 +264,9 @@ pub fn sessions() -> Vec<Session> {
     list.push(Session::new("refusal-13-14-hpmn-n-no-el2", hpmn_session(0)));
     list.push(Session::new("refusal-15-each-counter", wide_counters_session()));
     list.push(Session::new("refusal-17-subsets", features_session()));
-    for (name, command) in COMMANDS {
-        list.push(Session::new(format!("refusals-together-{name}"), subsets_session(command)));
+    for (name, given, command) in COMMANDS {
+        let bytes = subsets_session(given, command);
+        list.push(Session::new(format!("refusals-together-{name}"), bytes));
     }
     list
 }

@@ -1,8 +1,9 @@
 //! MODEL G8 to G10: granted writes of PMSWINC. Each operand bit, which bits are
-//! ignored, event numbers, and wrapping.
+//! ignored, event numbers, and wrapping. All counters are on: what switches them
+//! off is in running.rs.
 
 use super::fields::*;
-use super::script::{Change, Kind, Script, Switch};
+use super::script::{Change, Kind, Script, Switch, RUNNING};
 use super::Session;
 use crate::generate::{counter_word, word};
 
@@ -13,7 +14,7 @@ fn increment(script: &mut Script, operand: u64) {
 
 /// Each of the 64 operand bits; bits from 31 up are ignored.
 fn each_bit_session(level: u8) -> Vec<u8> {
-    let mut script = Script::counters(&[]);
+    let mut script = Script::counters(&RUNNING);
     script.put(&[(N, 31), (HPMN, 31), (LEVEL, level as u64)]);
     for bit in 0..64 {
         increment(&mut script, 1 << bit);
@@ -26,7 +27,7 @@ fn each_bit_session(level: u8) -> Vec<u8> {
 
 /// All bits at once with HPMN 4 and N 6, at one level, HPMN and EL2 flipped.
 fn limits_session(level: u8) -> Vec<u8> {
-    let mut script = Script::counters(&[]);
+    let mut script = Script::counters(&RUNNING);
     script.level(level);
     let cases: [&[Change]; 8] = [
         &[],
@@ -51,7 +52,7 @@ fn limits_session(level: u8) -> Vec<u8> {
 
 /// Every HPMN and N: the bits just below and at each, from level 1.
 fn borders_session(field: u8) -> Vec<u8> {
-    let mut script = Script::counters(&[]);
+    let mut script = Script::counters(&RUNNING);
     script.put(&[(HPMN0, 1), (HPMN, 31), (N, 31), (LEVEL, 1)]);
     if field == N {
         script.put(&[(EL2_ENABLED, 0), (HAVE_EL2, 0)]);
@@ -69,7 +70,7 @@ fn borders_session(field: u8) -> Vec<u8> {
 fn pmuacr_session(level: u8) -> Vec<u8> {
     let switches: [Switch; 5] =
         [(PMUACR_P, ALL_P - (1 << 3), 1 << 3), (UEN, 0, 1), (SW, 0, 1), (P9, 0, 1), (ER, 0, 1)];
-    let mut script = Script::counters(&[]);
+    let mut script = Script::counters(&RUNNING);
     script.level(level);
     script.subsets(&switches, |s| s.probe(Kind::Swinc, 3));
     script.finish()
@@ -79,14 +80,14 @@ fn pmuacr_session(level: u8) -> Vec<u8> {
 fn en_session() -> Vec<u8> {
     let switches: [Switch; 5] =
         [(PMUACR_P, 0, ALL_P), (UEN, 0, 1), (SW, 0, 1), (EN, 0, 1), (P9, 0, 1)];
-    let mut script = Script::counters(&[]);
+    let mut script = Script::counters(&RUNNING);
     script.subsets(&switches, |s| s.probe(Kind::Swinc, 3));
     script.finish()
 }
 
 /// Each P bit binds its own counter: all bits are written under one P.
 fn each_p_session() -> Vec<u8> {
-    let mut script = Script::counters(&[]);
+    let mut script = Script::counters(&RUNNING);
     script.put(&[(N, 31), (HPMN, 31), (UEN, 1)]);
     for m in 0..31 {
         script.set(COUNTER + m, 0x1000 * m as u64);
@@ -102,7 +103,7 @@ fn each_p_session() -> Vec<u8> {
 
 /// Event numbers with one bit set: none of them counts.
 fn event_bits_session() -> Vec<u8> {
-    let mut script = Script::counters(&[]);
+    let mut script = Script::counters(&RUNNING);
     script.level(1);
     for bit in 0..16 {
         script.set(EVENT + 2, 1 << bit);
@@ -117,7 +118,7 @@ fn event_bits_session() -> Vec<u8> {
 /// Each event number stops its own counter: counters whose number has a bit
 /// set, for each of the five bits.
 fn event_counters_session() -> Vec<u8> {
-    let mut script = Script::counters(&[]);
+    let mut script = Script::counters(&RUNNING);
     script.put(&[(N, 31), (HPMN, 31), (LEVEL, 1)]);
     for bit in 0..5 {
         for m in 0..31u8 {
@@ -138,10 +139,10 @@ fn event_counters_session() -> Vec<u8> {
 }
 
 /// Counters at the borders, incremented four times: with p5 they wrap at 2^64,
-/// without it at 2^32. Enables do not matter.
+/// without it at 2^32.
 fn wrap_session(p5: u64) -> Vec<u8> {
     let top = if p5 == 1 { u64::MAX } else { 0xFFFF_FFFF };
-    let mut script = Script::counters(&[]);
+    let mut script = Script::counters(&RUNNING);
     script.put(&[(P9, 0), (P5, p5), (N, 31), (HPMN, 31)]);
     let values = [top - 1, top, 0xFFFF_FFFE, 0xFFFF_FFFF, 0x7FFF_FFFF, 0, top / 2, 0xFFFF];
     for (m, value) in [0, 1, 2, 3, 4, 5, 29, 30].iter().zip(values) {

@@ -1,11 +1,11 @@
 //! What the directed sessions reach: every answer, every refusal that a session
 //! can reach, every target of a trap, every register in both directions, every
-//! overflow flag.
+//! overflow flag, every way to switch a counter off.
 
 use super::fields::{ALL_PMOVS, LEVEL, PMOVS};
 use super::script::{PMCNTENSET, PMOVSCLR, PMOVSSET};
 use super::{all, Session};
-use crate::model::{Machine, Move, Register};
+use crate::model::{Answer, Machine, Move, Register};
 use crate::session::{obey, parse, run, Command, Parsed, LIMIT};
 use std::collections::BTreeSet;
 
@@ -213,6 +213,43 @@ fn every_carry_is_there() {
         }
     }
     assert_eq!(seen.len(), 16, "{seen:?}");
+}
+
+/// Operand bits of PMSWINC that nothing but the switches can hold back: EL2
+/// missing, implemented and enabled, the counter below HPMN and from it up, each
+/// with every setting of its enable bit, E and HPME.
+#[test]
+fn every_switch_is_there() {
+    let mut seen = BTreeSet::new();
+    for session in all().iter().filter(|session| session.bytes.len() <= LIMIT) {
+        let mut machine = Machine::default();
+        for command in commands(session) {
+            let before = machine.clone();
+            let answer = obey(&mut machine, command);
+            let operand = match command {
+                Command::Access { word, operand } if word & 31 != 31 => operand,
+                _ => continue,
+            };
+            if target(command) != Some(("PMSWINC", false)) || answer != Answer::Ok {
+                continue;
+            }
+            let bits = (0..before.n).filter(|&m| operand >> m & 1 == 1);
+            for m in bits.filter(|&m| before.event[m as usize] == 0) {
+                let high = m >= before.hpmn;
+                if before.el == 0 && before.uen || before.el < 2 && before.el2_enabled && high {
+                    continue;
+                }
+                let moved = machine.pmevcntr[m as usize] != before.pmevcntr[m as usize];
+                let switches = (before.pmcnten >> m & 1 == 1, before.pmcr_e, before.hpme);
+                seen.insert((before.have_el2, before.el2_enabled, high, switches, moved));
+            }
+        }
+    }
+    assert_eq!(seen.len(), 48, "{seen:?}");
+    for (have_el2, _, high, (enabled, e, hpme), moved) in seen {
+        let range = if have_el2 && high { hpme } else { e };
+        assert_eq!(moved, enabled && range);
+    }
 }
 
 #[test]

@@ -3,7 +3,7 @@
 //! shows.
 
 use super::fields::*;
-use super::script::{debug_states, Change, Kind, Script, Switch};
+use super::script::{debug_states, Change, Kind, Script, Switch, RUNNING};
 use super::Session;
 
 /// Consistent, and no rule applies to counter 3 at any level.
@@ -19,6 +19,16 @@ const GIVEN: [Change; 8] = [
 ];
 
 const KINDS: [Kind; 3] = [Kind::CounterRead, Kind::CounterWrite, Kind::Swinc];
+
+/// A session on a kind of access. An increment that no rule stops has to show,
+/// so the counters are on.
+fn script(kind: Kind) -> Script {
+    let mut script = Script::counters(&GIVEN);
+    if kind == Kind::Swinc {
+        script.put(&RUNNING);
+    }
+    script
+}
 
 /// What makes a rule apply, and what is changed from there, one at a time.
 struct Rule {
@@ -140,7 +150,7 @@ const RULES: [fn(Kind) -> Rule; 6] = [rule_1, rule_2, rule_3, rule_4, rule_5, ru
 
 /// One rule for one kind of access at one level.
 fn rule_session(rule: &Rule, kind: Kind, level: u8) -> Vec<u8> {
-    let mut script = Script::counters(&GIVEN);
+    let mut script = script(kind);
     script.level(level);
     script.probe(kind, 3);
     script.put(&rule.applies);
@@ -166,7 +176,7 @@ fn switches(kind: Kind) -> [Switch; 6] {
 
 /// All subsets of the rules at one level, in Debug state with SDD or not.
 fn subsets_session(kind: Kind, level: u8, halted: u64) -> Vec<u8> {
-    let mut script = Script::counters(&GIVEN);
+    let mut script = script(kind);
     script.put(&[(HALTED, halted), (SDD, 1)]);
     script.level(level);
     script.subsets(&switches(kind), |s| s.probe(kind, 3));
@@ -176,7 +186,7 @@ fn subsets_session(kind: Kind, level: u8, halted: u64) -> Vec<u8> {
 /// Levels 0 and 1 where EL2 is not enabled, or E2H and TGE are both 1: T3 to T5
 /// then go away, or T3 alone at level 0.
 fn weakened_session(kind: Kind, changes: &[Change]) -> Vec<u8> {
-    let mut script = Script::counters(&GIVEN);
+    let mut script = script(kind);
     script.put(changes);
     let all = switches(kind);
     script.subsets(&all[1..], |s| s.probe(kind, 3));

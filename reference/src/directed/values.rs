@@ -2,7 +2,7 @@
 //! beside it, and that a refused value (MODEL R4) changes nothing.
 
 use super::fields::*;
-use super::script::{Change, Kind, Script, PMCNTENSET, PMOVSCLR, PMSWINC};
+use super::script::{Change, Kind, Script, PMCNTENSET, PMOVSCLR, PMSWINC, RUNNING};
 use super::Session;
 use crate::generate::{counter_word, word};
 
@@ -55,6 +55,9 @@ const SWINC: Witness = Access(Kind::Swinc);
 const IREAD: Witness = Access(Kind::IcntrRead);
 const IWRITE: Witness = Access(Kind::IcntrWrite);
 
+/// Counter 3 can count, as far as its own enable bit goes.
+const ENABLED: Change = (ENABLES, 1 << 3);
+
 const FEATURES: [Row; 15] = [
     (PMUV3, &[(P5, 0), (P9, 0), (ICNTR, 0), (COUNTER + 3, 0x33)], READ),
     (P5, &[(P9, 0), (COUNTER + 3, 0x33)], Wide),
@@ -75,7 +78,7 @@ const FEATURES: [Row; 15] = [
 
 const CONTROLS: [Row; 18] = [
     (EN, &[(LEVEL, 0)], WRITE),
-    (SW, &[(LEVEL, 0), (EN, 0)], SWINC),
+    (SW, &[(LEVEL, 0), (EN, 0), ENABLED, (PMCR_E, 1)], SWINC),
     (ER, &[(LEVEL, 0), (EN, 0)], READ),
     (UEN, &[(LEVEL, 0)], READ),
     (E2H, &[(LEVEL, 0), (TGE, 1), (FGT_COUNTER_READ, 1)], READ),
@@ -87,7 +90,7 @@ const CONTROLS: [Row; 18] = [
     (FGTEN2, &[], IREAD),
     (FGT_COUNTER_READ, &[], READ),
     (FGT_COUNTER_WRITE, &[], WRITE),
-    (FGT_SWINC, &[], SWINC),
+    (FGT_SWINC, &[ENABLED, (PMCR_E, 1)], SWINC),
     (NPMICNTR_READ, &[], IREAD),
     (NPMICNTR_WRITE, &[], IWRITE),
     (IR, &[(LEVEL, 0), (PMUACR_F0, 1)], IWRITE),
@@ -103,7 +106,16 @@ const LOCKS: [Row; 5] = [
 ];
 
 /// Counter 3 is below HPMN, or at it.
-const LONG: [Row; 2] = [(LP, &[], Carry), (HLP, &[(HPMN, 3), (LEVEL, 2)], Carry)];
+const LONG: [Row; 2] = [
+    (LP, &[ENABLED, (PMCR_E, 1)], Carry),
+    (HLP, &[(HPMN, 3), (LEVEL, 2), ENABLED, (HPME, 1)], Carry),
+];
+
+/// Likewise. The bit of the other range is 1 and makes up for nothing.
+const RANGES: [Row; 2] = [
+    (PMCR_E, &[ENABLED, (HPME, 1)], SWINC),
+    (HPME, &[(HPMN, 3), (LEVEL, 2), ENABLED, (PMCR_E, 1)], SWINC),
+];
 
 /// What shows the value of a field.
 fn show(script: &mut Script, witness: Witness) {
@@ -229,6 +241,7 @@ fn flags_session() -> Vec<u8> {
 fn events_session() -> Vec<u8> {
     let mut script = Script::new(&GIVEN);
     script.put(&[(N, 31), (HPMN, 31), (LEVEL, 1)]);
+    script.put(&RUNNING);
     for m in 0..31 {
         script.set(EVENT + m, 0xFFFF);
         script.set_refused(EVENT + m, 0x1_0000);
@@ -269,6 +282,7 @@ pub fn sessions() -> Vec<Session> {
         Session::new("fields-controls-2a-to-33", bits_session(controls.1)),
         Session::new("fields-external", bits_session(&LOCKS)),
         Session::new("fields-lp-hlp", bits_session(&LONG)),
+        Session::new("fields-e-hpme", bits_session(&RANGES)),
         Session::new("fields-n-hpmn", counts_session()),
         Session::new("fields-pmuacr-enables", masks_session()),
         Session::new("fields-overflow-flags", flags_session()),

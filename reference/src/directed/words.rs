@@ -2,7 +2,7 @@
 //! them, Rt, the accesses that are undefined at once, and the syndrome.
 
 use super::fields::*;
-use super::script::{Change, Script};
+use super::script::{Change, Script, RUNNING};
 use super::Session;
 use crate::generate::{counter_word, word};
 
@@ -31,19 +31,21 @@ fn script() -> Script {
     script
 }
 
-/// One word of each register and direction.
-const WORDS: [(&str, u32); 6] = [
-    ("counter-0-read", 0xD53B_E802),
-    ("counter-30-write", 0xD51B_EBC1),
-    ("pmswinc-read", 0xD53B_9C82),
-    ("pmswinc-write", 0xD51B_9C81),
-    ("pmicntr-read", 0xD53B_9402),
-    ("pmicntr-write", 0xD51B_9401),
+/// One word of each register and direction, and what is set so that those
+/// beside it have an effect.
+const WORDS: [(&str, u32, &[Change]); 6] = [
+    ("counter-0-read", 0xD53B_E802, &[]),
+    ("counter-30-write", 0xD51B_EBC1, &[]),
+    ("pmswinc-read", 0xD53B_9C82, &RUNNING),
+    ("pmswinc-write", 0xD51B_9C81, &RUNNING),
+    ("pmicntr-read", 0xD53B_9402, &[]),
+    ("pmicntr-write", 0xD51B_9401, &[]),
 ];
 
 /// Every word that differs in one bit.
-fn neighbours_session(word: u32) -> Vec<u8> {
+fn neighbours_session(word: u32, given: &[Change]) -> Vec<u8> {
     let mut script = script();
+    script.put(given);
     script.access(word, 0x5500);
     for bit in 0..32 {
         script.access(word ^ 1 << bit, 0x5501 + bit);
@@ -110,6 +112,7 @@ fn rt_session(read: bool) -> Vec<u8> {
 /// The same for PMSWINC: with Rt 31 no bit is set.
 fn swinc_rt_session() -> Vec<u8> {
     let mut script = script();
+    script.put(&RUNNING);
     for rt in 0..32 {
         script.access(word(false, 9, 12, 4, rt), 1 << (rt % 31));
     }
@@ -183,8 +186,9 @@ fn n_session(fgt: u64) -> Vec<u8> {
 
 pub fn sessions() -> Vec<Session> {
     let mut list = Vec::new();
-    for (name, word) in WORDS {
-        list.push(Session::new(format!("words-beside-{name}"), neighbours_session(word)));
+    for (name, word, given) in WORDS {
+        let bytes = neighbours_session(word, given);
+        list.push(Session::new(format!("words-beside-{name}"), bytes));
     }
     for (direction, read) in [("read", true), ("write", false)] {
         for crn in [9, 14] {

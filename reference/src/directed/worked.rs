@@ -2,7 +2,7 @@
 //! each as a session. Q1 has that of P9. P10 is done with counter 5.
 
 use super::fields::*;
-use super::script::{Change, Kind, Script, PMCNTENSET};
+use super::script::{Change, Kind, Script, PMCNTENSET, RUNNING};
 use super::Session;
 use crate::generate::{counter_word, word};
 
@@ -43,6 +43,9 @@ const WRITE_3: u32 = 0xD51B_E862;
 const LEVEL_0: Step = Put((LEVEL, 0));
 const LEVEL_1: Step = Put((LEVEL, 1));
 const LEVEL_2: Step = Put((LEVEL, 2));
+const ALL_ENABLED: Step = Put((ENABLES, ALL_P));
+const E_1: Step = Put((PMCR_E, 1));
+const HPME_1: Step = Put((HPME, 1));
 
 const ROWS: [(&str, &[Step]); 11] = [
     ("worked-p01", &[LEVEL_1, Access(READ_4, 0)]),
@@ -69,6 +72,9 @@ const ROWS: [(&str, &[Step]); 11] = [
     (
         "worked-p06",
         &[
+            ALL_ENABLED,
+            E_1,
+            HPME_1,
             LEVEL_1,
             Access(SWINC, 0x18),
             LEVEL_2,
@@ -82,6 +88,9 @@ const ROWS: [(&str, &[Step]); 11] = [
     (
         "worked-p07",
         &[
+            ALL_ENABLED,
+            E_1,
+            HPME_1,
             Put((COUNTER, 0xFFFF_FFFF)),
             LEVEL_1,
             Access(SWINC, 1),
@@ -94,7 +103,19 @@ const ROWS: [(&str, &[Step]); 11] = [
         ],
     ),
     ("worked-p08", &[LEVEL_0, Put((EN, 0)), Access(SWINC, 0), Put((TGE, 1)), Access(SWINC, 0)]),
-    ("worked-p09", &[LEVEL_0, Put((UEN, 1)), Put((SW, 1)), Put((EN, 0)), Access(SWINC, 8)]),
+    (
+        "worked-p09",
+        &[
+            ALL_ENABLED,
+            E_1,
+            HPME_1,
+            LEVEL_0,
+            Put((UEN, 1)),
+            Put((SW, 1)),
+            Put((EN, 0)),
+            Access(SWINC, 8),
+        ],
+    ),
     (
         "worked-p10",
         &[LEVEL_1, Put((HPMN, 6)), Access(READ_5, 0), Put((HPMN, 7)), Access(READ_5, 0)],
@@ -132,6 +153,7 @@ fn row_session(steps: &[Step]) -> Vec<u8> {
 /// above HPMN: the bit is ignored.
 fn order_session() -> Vec<u8> {
     let mut script = Script::new(&GIVEN);
+    script.put(&RUNNING);
     script.put(&[(HAVE_EL3, 1), (TPM_EL3, 1)]);
     for level in [0, 1, 2] {
         script.level(level);
@@ -148,9 +170,11 @@ fn order_session() -> Vec<u8> {
     script.finish_all()
 }
 
-/// MODEL Q3: while EL2 is not enabled, neither T5 nor PMSWINC looks at HPMN.
+/// MODEL Q3: while EL2 is not enabled, T5 does not look at HPMN, and PMSWINC
+/// ignores no bit because of it. Counters on both sides of it are on.
 fn not_enabled_session() -> Vec<u8> {
     let mut script = Script::new(&GIVEN);
+    script.put(&RUNNING);
     script.put(&[(EL2_ENABLED, 0)]);
     for have_el2 in [1, 0] {
         script.set(HAVE_EL2, have_el2);
@@ -169,6 +193,7 @@ fn not_enabled_session() -> Vec<u8> {
 /// MODEL Q4: no bit of PMUACR binds level 1, and none of PMUSERENR.
 fn level_1_session() -> Vec<u8> {
     let mut script = Script::new(&GIVEN);
+    script.put(&RUNNING);
     script.put(&[(UEN, 1), (ER, 1), (IR, 1), (ICNTR, 1), (COUNTER + 3, 0x13)]);
     for level in [1, 2, 0] {
         script.level(level);

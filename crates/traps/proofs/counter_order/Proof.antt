@@ -9,10 +9,10 @@ use Rattle.traps.proofs.counter_order.Statement.{statement}
 use Rattle.traps.proofs.counter_order.Tie as tie
 
 row :
-    (v : View) (disabled trapBit above : Bool) {x : Stop} → Picks Stop.Pass x (counterRules v disabled trapBit above)
-    → x ≡ counterOrder v disabled trapBit above
+    (v : View) (disabled trapBit rule5 : Bool) {x : Stop} → Picks Stop.Pass x (counterRules v disabled trapBit rule5)
+    → x ≡ counterOrder v disabled trapBit rule5
 unfolding counterOrder
-row v disabled trapBit above p = picked (counterRules v disabled trapBit above) p
+row v disabled trapBit rule5 p = picked (counterRules v disabled trapBit rule5) p
 
 returns : tie.Need-returns
 unfolding counterRules

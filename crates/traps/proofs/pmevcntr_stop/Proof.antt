@@ -7,8 +7,9 @@ use Rattle.traps.proofs.pmevcntr_stop.Tie as tie
 returns : tie.Need-returns
 unfolding pmevcntrStop
 returns c =
-    simp (sym (c .before .before .before .select .ensures), sym (c .before .before .select2 .ensures))
-    (c .counter-order .ensures)
+    let at-select2 = c .before .before .before .before in
+    let at-select = at-select2 .before in
+    simp (sym (at-select .select .ensures), sym (at-select2 .select2 .ensures)) (c .counter-order .ensures)
 
 pub pmevcntr-stop-spec : {M : Type 1} → statement M
 pmevcntr-stop-spec =

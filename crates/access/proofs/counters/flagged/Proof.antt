@@ -4,7 +4,8 @@ use mathlib.Core.Bool.{_&&_, and-false}
 use mathlib.Core.Path.{sym, _∙_, ap}
 use lib.Dec.{ltb, eqb}
 use Rattle.machine.proofs.Bools.{and-left}
-use Rattle.rules.specs.Overflow.{width, carries, overflowWidth, longBit, raised}
+use Rattle.rules.specs.Ranges.{longBit}
+use Rattle.rules.specs.Overflow.{width, carries, overflowWidth, raised}
 use Rattle.rules.proofs.Flags.{raised-none}
 use Rattle.access.proofs.FlagTurns.{no-overflow}
 use Rattle.access.proofs.counters.flagged.Statement.{statement}

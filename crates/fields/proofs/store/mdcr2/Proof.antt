@@ -4,7 +4,9 @@ use Rattle.fields.proofs.store.mdcr2.Tie as tie
 
 returns : tie.Need-returns
 unfolding Rattle.fields.specs.Store.storeMdcr2
-returns c = simp (c .before .before .pick .ensures)
+returns c =
+    let at-pick = c .before .before .before in
+    simp (at-pick .pick .ensures)
 
 pub mdcr2-spec : {M : Type 1} → statement M
 mdcr2-spec = tie.close (tie.spec (λ c κs. tt) returns)
