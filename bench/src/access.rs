@@ -36,10 +36,12 @@ fn rows() -> Vec<Row> {
     rows
 }
 
-/// EL2 with 4 of 6 counters below HPMN, EN 1, and p5 or not.
+/// EL2 with 4 of 6 counters below HPMN, EN 1, all six enabled with E and HPME
+/// 1, and p5 or not.
 fn sets(row: &Row) -> Vec<u64> {
-    let fields = [(0x00, 1), (0x01, row.p5), (0x0C, 6), (0x09, 1), (0x10, 1), (0x27, 4), (0x20, 1)];
-    fields.iter().map(|(field, value)| field << 32 | value).collect()
+    let features = [(0x00, 1), (0x01, row.p5), (0x0C, 6), (0x09, 1), (0x10, 1), (0x27, 4), (0x20, 1)];
+    let enables = [(0x34, 0x3F), (0x3D, 1), (0x3E, 1)];
+    features.iter().chain(&enables).map(|(field, value)| field << 32 | value).collect()
 }
 
 /// The row's access again and again, with another Rt each time.

@@ -37,7 +37,10 @@ overflowExamples =
     1
     (swinc 0x18)
     ((0x63, 0x100000000) ∷ (0x64, 0x100000000) ∷ (0x37, 8) ∷ [])
-    ∷ changes (countersOn ((0x10, 0) ∷ (0x36, 1) ∷ (0x64, 0xFFFFFFFFFFFFFFFF) ∷ [])) 1 (swinc 0x10) ((0x64, 0) ∷ (0x37, 0x10) ∷ [])
+    ∷ changes (countersOn ((0x10, 0) ∷ (0x36, 1) ∷ (0x64, 0xFFFFFFFFFFFFFFFF) ∷ []))
+    1
+    (swinc 0x10)
+    ((0x64, 0) ∷ (0x37, 0x10) ∷ [])
     -- MODEL G12: without EL2 LP decides for all
     ∷ changes (countersOn ((0x09, 0) ∷ (0x10, 0) ∷ (0x36, 1) ∷ (0x64, 0xFFFFFFFF) ∷ []))
     1

@@ -37,7 +37,11 @@ trapExamples =
     ∷ answers ((0x20, 0) ∷ (0x2C, 1) ∷ (0x26, 1) ∷ []) 0 mrs4 (trap El1 0x6238F851)
     ∷ answers ((0x20, 0) ∷ (0x63, 9) ∷ []) 1 mrs3 (gives 9)
     -- MODEL T3, T8: each bit for its own access
-    ∷ shows (countersOn ((0x2C, 1) ∷ [])) 1 (mrs3 ∷ msr3 5 ∷ swinc 8 ∷ []) (trap El2 0x6236F851 ∷ Answer.Ok ∷ Answer.Ok ∷ []) ((0x63, 6) ∷ [])
+    ∷ shows (countersOn ((0x2C, 1) ∷ []))
+    1
+    (mrs3 ∷ msr3 5 ∷ swinc 8 ∷ [])
+    (trap El2 0x6236F851 ∷ Answer.Ok ∷ Answer.Ok ∷ [])
+    ((0x63, 6) ∷ [])
     ∷ shows (countersOn ((0x2D, 1) ∷ (0x63, 9) ∷ []))
     1
     (mrs3 ∷ msr3 5 ∷ swinc 8 ∷ [])

@@ -17,7 +17,8 @@ add-result c =
     let at-below-where = c .before .before in
     let at-start = at-below-where .before .before in
     let s = at-start .args .s in
-    simp (c .before .pick .ensures, c .pick2 .ensures, at-below-where .below-where .ensures, enabled-steps s) (omega (arith, fromBits-lt 31 (counterEnabled s)))
+    simp (c .before .pick .ensures, c .pick2 .ensures, at-below-where .below-where .ensures, enabled-steps s)
+    (omega (arith, fromBits-lt 31 (counterEnabled s)))
 
 returns : tie.Need-returns
 returns c =
