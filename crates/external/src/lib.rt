@@ -4,7 +4,7 @@ pub mod flags; // flags.rt: the bits of the registers that are in reach, set and
 mod reach; // reach.rt: how far an access at an offset gets
 
 ghost use mathlib.Core.Path.{_≡_};
-ghost use Rattle.fields.specs.Store.{store};
+ghost use Rattle.store.specs.Store.{store};
 ghost use Rattle.rules.specs.External.{readOf, writeOf, tickOf, effectOf, ovsCounted, judge, enact};
 ghost use Rattle.rules.specs.External.{externalRead, externalWrite, tick};
 ghost use Rattle.state.specs.State.{viewOf};

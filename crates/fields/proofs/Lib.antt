@@ -1,5 +1,3 @@
 -- The laws of the crate `fields`.
 pub mod Below
-pub mod Flag
-pub mod StoreList
 pub mod SetLaws

@@ -14,7 +14,7 @@ use Rattle.answer.specs.declared.Refusal.the-variants.{UnknownField, ValueTooLa
 use Rattle.machine.specs.declared.Machine.{Machine}
 use Rattle.fields.specs.Largest.{largest, exceeds, largestLevel}
 use Rattle.machine.specs.Machine.{withLevel}
-use Rattle.fields.specs.Store.{store, storeSettings, storeList}
+use Rattle.store.specs.Store.{store, storeSettings, storeList}
 use Rattle.fields.specs.Set.{set, setLevel}
 use Rattle.machine.specs.Outcome.{refused, done}
 

@@ -5,10 +5,7 @@ use mathlib.Core.List.{List, [], _∷_}
 use lib.Dec.{leb, ltb, eqb}
 use Rattle.bits.specs.Bits.{bit}
 use Rattle.machine.specs.First.{first}
-
--- MODEL F1: a number from low to high, both included
-abbrev pub within : ℕ → ℕ → ℕ → Bool
-within low high f = leb low f && leb f high
+use Rattle.store.specs.Store.{within}
 
 -- MODEL F2 to F13 and F21: the numbers of the one-bit fields
 abbrev pub isFlag : ℕ → Bool

@@ -1,4 +1,3 @@
 -- The definitions of the crate `fields`.
 pub mod Largest
-pub mod Store
 pub mod Set

@@ -9,7 +9,7 @@ use Rattle.machine.specs.declared.Outcome.{Outcome}
 use Rattle.fields.specs.Largest.{isField, exceeds, largestLevel}
 use Rattle.machine.specs.Machine.{withLevel}
 use Rattle.machine.specs.Outcome.{refused, done}
-use Rattle.fields.specs.Store.{store}
+use Rattle.store.specs.Store.{store}
 
 -- MODEL R3, R4, F20 and V1: the set command is refused with 3, else with 4, else the field holds the value
 unfoldable pub set : ℕ → ℕ → Machine → Outcome

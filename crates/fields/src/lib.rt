@@ -1,5 +1,4 @@
-// The fields of the machine record by their numbers. specs/Store.antt is the table of field numbers, specs/Largest.antt has the
-// largest value of each.
+// The fields of the machine record by their numbers: the largest value of each (specs/Largest.antt), and the commands that set
+// them. Which number stores to which field is the crate `store`.
 pub mod largest; // largest.rt: the largest value of a field
-mod store; // store.rt: the parts of the record with one field stored
 pub mod set; // set.rt: the set and level commands

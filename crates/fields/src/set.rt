@@ -2,7 +2,6 @@
 ghost use mathlib.Core.Path.{_≡_};
 ghost use Rattle.fields.specs.Set.{set, setLevel};
 use crate::largest;
-use crate::store;
 use answer::Answer;
 use answer::Refusal;
 use machine::Machine;

@@ -8,7 +8,7 @@ use mathlib.Core.Path.{_≡_, refl, sym, _∙_}
 use lib.ListN.{getD}
 use Rattle.fields.specs.Largest.{largest}
 use Rattle.fields.specs.Set.{set}
-use Rattle.fields.specs.Store.{store, storeSettings, storeFeatures, storeMdcr2, storePmuacr}
+use Rattle.store.specs.Store.{store, storeSettings, storeFeatures, storeMdcr2, storePmuacr}
 use Rattle.machine.specs.declared.Machine.{Machine}
 use Rattle.rules.specs.Example.{setAll, countersOn, usual}
 use Rattle.rules.specs.Isolation.{Start, Isolated, fromLevels, fromHpmn, withoutP, instructionCounter}

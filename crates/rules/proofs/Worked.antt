@@ -6,7 +6,7 @@ use Rattle.bits.specs.Bits.{fromBits}
 use Rattle.fields.specs.Largest.{largest}
 use Rattle.fields.specs.Set.{set, setAll}
 use Rattle.state.specs.State.{viewOf, tooLarge, refusals, verdictOf}
-use Rattle.fields.specs.Store.{store, storeSettings, storeFeatures, storeMdcr2, storePmuacr}
+use Rattle.store.specs.Store.{store, storeSettings, storeFeatures, storeMdcr2, storePmuacr}
 use Rattle.rules.specs.Word.{named, register, syndrome, decode, written}
 use Rattle.rules.specs.Traps.{
   disabledTrap,

@@ -14,7 +14,7 @@ use Rattle.state.specs.declared.Verdict.the-variants.{Consistent, Refused}
 use Rattle.machine.specs.First.{first}
 use Rattle.machine.specs.Machine.{withInstructions, withOvs}
 use Rattle.machine.specs.Outcome.{says, done}
-use Rattle.fields.specs.Store.{store}
+use Rattle.store.specs.Store.{store}
 use Rattle.state.specs.State.{viewOf, verdictOf}
 use Rattle.rules.specs.declared.external.Request.{Request}
 use Rattle.rules.specs.declared.external.Request.the-variants.{Read, Write, Tick}

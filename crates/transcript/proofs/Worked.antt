@@ -4,7 +4,7 @@ use mathlib.Core.Path.{_≡_, refl}
 use Rattle.fields.specs.Largest.{largest}
 use Rattle.fields.specs.Set.{set, setLevel}
 use Rattle.state.specs.State.{viewOf, tooLarge, refusals, verdictOf}
-use Rattle.fields.specs.Store.{store, storeSettings, storeFeatures, storeMdcr2, storePmuacr}
+use Rattle.store.specs.Store.{store, storeSettings, storeFeatures, storeMdcr2, storePmuacr}
 use Rattle.rules.specs.Word.{named, register, syndrome, decode, written}
 use Rattle.rules.specs.Traps.{disabledTrap, stopAtEl3, counterRules, counterOrder, pmevcntrStop}
 use Rattle.rules.specs.Permitted.{placeAccess}

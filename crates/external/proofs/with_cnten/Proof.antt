@@ -1,6 +1,6 @@
 -- `external::with_cnten` meets its contract: a store to field 34 leaves every other field, by computation.
 use mathlib.Core.Path.{refl}
-use Rattle.fields.specs.Store.{store, storeSettings, storeFeatures, storeMdcr2, storePmuacr}
+use Rattle.store.specs.Store.{store, storeSettings, storeFeatures, storeMdcr2, storePmuacr}
 use Rattle.external.proofs.with_cnten.Statement.{statement}
 use Rattle.external.proofs.with_cnten.Tie as tie
 

@@ -1,9 +1,9 @@
 -- `store::mdcr2` meets its contract: the flags by computation, HPMN by `pick`.
-use Rattle.fields.proofs.store.mdcr2.Statement.{statement}
-use Rattle.fields.proofs.store.mdcr2.Tie as tie
+use Rattle.store.proofs.mdcr2.Statement.{statement}
+use Rattle.store.proofs.mdcr2.Tie as tie
 
 returns : tie.Need-returns
-unfolding Rattle.fields.specs.Store.storeMdcr2
+unfolding Rattle.store.specs.Store.storeMdcr2
 returns c =
     let at-pick = c .before .before .before in
     simp (at-pick .pick .ensures)

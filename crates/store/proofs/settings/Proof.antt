@@ -1,9 +1,9 @@
 -- `store::settings` meets its contract: each part is what its own function says.
-use Rattle.fields.proofs.store.settings.Statement.{statement}
-use Rattle.fields.proofs.store.settings.Tie as tie
+use Rattle.store.proofs.settings.Statement.{statement}
+use Rattle.store.proofs.settings.Tie as tie
 
 returns : tie.Need-returns
-unfolding Rattle.fields.specs.Store.storeSettings
+unfolding Rattle.store.specs.Store.storeSettings
 returns c =
     let at-pmuacr = c .before .before in
     let at-hdfgwtr = at-pmuacr .before in

@@ -4,7 +4,7 @@ use mathlib.Core.List.{List}
 use mathlib.Core.Path.{_≡_, sym}
 use borrow.Author.Tests.{le-leb, lt-leb}
 use lib.ListN.{set}
-use Rattle.fields.specs.Store.{storeList}
+use Rattle.store.specs.Store.{storeList}
 
 module _ (first f v : ℕ) (l : List ℕ) where
   pub store-below : f < first → l ≡ storeList first f v l

@@ -1,8 +1,8 @@
 -- `store::counters` meets its contract, by the laws of `storeList`.
 use borrow.Author.Needs.{needs}
-use Rattle.fields.proofs.StoreList.{store-below, store-past, store-at}
-use Rattle.fields.proofs.store.counters.Statement.{statement}
-use Rattle.fields.proofs.store.counters.Tie as tie
+use Rattle.store.proofs.StoreList.{store-below, store-past, store-at}
+use Rattle.store.proofs.counters.Statement.{statement}
+use Rattle.store.proofs.counters.Tie as tie
 
 returns : tie.Need-returns
 returns c = store-below _ _ _ _ (c .if1 .taken)

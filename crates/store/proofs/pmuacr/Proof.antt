@@ -1,9 +1,9 @@
 -- `store::pmuacr` meets its contract: the flag by computation, the P bits by `pick`.
-use Rattle.fields.proofs.store.pmuacr.Statement.{statement}
-use Rattle.fields.proofs.store.pmuacr.Tie as tie
+use Rattle.store.proofs.pmuacr.Statement.{statement}
+use Rattle.store.proofs.pmuacr.Tie as tie
 
 returns : tie.Need-returns
-unfolding Rattle.fields.specs.Store.storePmuacr
+unfolding Rattle.store.specs.Store.storePmuacr
 returns c = simp (c .before .pick .ensures)
 
 pub pmuacr-spec : {M : Type 1} → statement M

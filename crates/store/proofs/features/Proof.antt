@@ -1,9 +1,9 @@
 -- `store::features` meets its contract: the flags by computation, N by `pick`.
-use Rattle.fields.proofs.store.features.Statement.{statement}
-use Rattle.fields.proofs.store.features.Tie as tie
+use Rattle.store.proofs.features.Statement.{statement}
+use Rattle.store.proofs.features.Tie as tie
 
 returns : tie.Need-returns
-unfolding Rattle.fields.specs.Store.storeFeatures
+unfolding Rattle.store.specs.Store.storeFeatures
 returns c =
     let at-pick = c .before .before .before .before .before .before .before .before .before .before .before .before in
     simp (at-pick .pick .ensures)

@@ -1,9 +1,9 @@
 // The record with one field stored, by the field's number: each part is made anew, in which the field with that number takes
-// the value and every other one stays. Nothing is tested here (set.rt).
+// the value and every other one stays. Nothing is tested here: the set command is in the crate `fields`.
 ghost use mathlib.Core.Path.{_≡_};
-ghost use Rattle.fields.specs.Store.{storeFeatures, storeExecution, storePmcr, storePmuserenr, storeHcr, storeMdcr2};
-ghost use Rattle.fields.specs.Store.{storeMdcr3, storeScr, storeHdfgrtr, storeHdfgwtr, storePmuacr, storeExternal};
-ghost use Rattle.fields.specs.Store.{storeSettings, storeList};
+ghost use Rattle.store.specs.Store.{storeFeatures, storeExecution, storePmcr, storePmuserenr, storeHcr, storeMdcr2};
+ghost use Rattle.store.specs.Store.{storeMdcr3, storeScr, storeHdfgrtr, storeHdfgwtr, storePmuacr, storeExternal};
+ghost use Rattle.store.specs.Store.{storeSettings, storeList};
 ghost use Prim.Native.Nat.{_%_};
 use machine::Execution;
 use machine::External;

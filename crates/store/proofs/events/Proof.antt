@@ -1,9 +1,9 @@
 -- `store::events` meets its contract, by the laws of `storeList`.
 use Prim.Native.Nat.{_%_}
 use borrow.Author.Needs.{needs}
-use Rattle.fields.proofs.StoreList.{store-below, store-past, store-at}
-use Rattle.fields.proofs.store.events.Statement.{statement}
-use Rattle.fields.proofs.store.events.Tie as tie
+use Rattle.store.proofs.StoreList.{store-below, store-past, store-at}
+use Rattle.store.proofs.events.Statement.{statement}
+use Rattle.store.proofs.events.Tie as tie
 
 returns : tie.Need-returns
 returns c = store-below _ _ _ _ (c .if1 .taken)

@@ -3,7 +3,7 @@ use Prim.Native.Nat.{ℕ}
 use mathlib.Core.Bool.{Bool, true, false, cond, not, _&&_, _||_}
 use mathlib.Core.Path.{_≡_, refl}
 use lib.Dec.{eqb}
-use Rattle.fields.specs.Store.{flag}
+use Rattle.store.specs.Store.{flag}
 
 chosen : (hit on old : Bool) → (hit && on) || (not hit && old) ≡ cond hit on old
 chosen true true old = refl

@@ -1,11 +1,11 @@
--- Which field of the record has which number: each field after a value is stored to the field with number f. Largest.antt has
--- the numbers again, in ranges, with the largest value of each; Set.antt has the tests of the set command, and here is none.
+-- Which field of the record has which number: each field after a value is stored to the field with number f. In the crate
+-- `fields`, Largest.antt has the numbers again, in ranges, with the largest value of each, and Set.antt the tests of the set
+-- command; here is none.
 use Prim.Native.Nat.{ℕ, _+_, _-_}
 use mathlib.Core.Bool.{Bool, cond, not, _&&_, _||_}
 use mathlib.Core.List.{List}
 use lib.ListN.{set}
-use lib.Dec.{eqb}
-use Rattle.fields.specs.Largest.{within}
+use lib.Dec.{leb, eqb}
 use Rattle.machine.specs.declared.Features.{Features}
 use Rattle.machine.specs.declared.Execution.{Execution}
 use Rattle.machine.specs.declared.Pmcr.{Pmcr}
@@ -20,6 +20,10 @@ use Rattle.machine.specs.declared.Pmuacr.{Pmuacr}
 use Rattle.machine.specs.declared.External.{External}
 use Rattle.machine.specs.declared.Settings.{Settings}
 use Rattle.machine.specs.declared.Machine.{Machine}
+
+-- MODEL F1: a number from low to high, both included
+abbrev pub within : ℕ → ℕ → ℕ → Bool
+within low high f = leb low f && leb f high
 
 -- MODEL F20: the one-bit field number k after v is stored to field f: v where f is k, else as it was
 abbrev pub flag : ℕ → ℕ → ℕ → Bool → Bool

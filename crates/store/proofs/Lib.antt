@@ -1,0 +1,3 @@
+-- The laws of the crate `store`.
+pub mod Flag
+pub mod StoreList
