@@ -22,7 +22,7 @@ const GIVEN: &str = "01 00 v:1 01 01 v:1 01 02 v:1 01 04 v:1 01 08 v:1 01 09 v:1
 const ON: &str = "01 34 v:0x7FFFFFFF 01 3D v:1 01 3E v:1 ";
 
 /// Runs commands after the given start; the answers without `ok` and `end`.
-fn sound(text: &str) -> Vec<String> {
+fn answers_of(text: &str) -> Vec<String> {
     let output = run_text(&format!("{GIVEN}{text} 00"));
     let mut answers = Vec::new();
     for (index, line) in output.lines().enumerate() {
@@ -45,32 +45,32 @@ fn worked_session() {
 
 #[test]
 fn p01() {
-    assert_eq!(sound("02 01 03 82 E8 3B D5 v:0"), ["trap 2 6238F851"]);
+    assert_eq!(answers_of("02 01 03 82 E8 3B D5 v:0"), ["trap 2 6238F851"]);
 }
 
 #[test]
 fn p02() {
     let text = "01 65 v:77 02 01 03 A2 E8 3B D5 v:0 02 02 03 A2 E8 3B D5 v:0";
-    assert_eq!(sound(text), ["trap 2 623AF851", "value 000000000000004D 2"]);
+    assert_eq!(answers_of(text), ["trap 2 623AF851", "value 000000000000004D 2"]);
 }
 
 #[test]
 fn p03() {
-    assert_eq!(sound("02 02 03 C2 E8 3B D5 v:0"), ["undef"]);
+    assert_eq!(answers_of("02 02 03 C2 E8 3B D5 v:0"), ["undef"]);
 }
 
 #[test]
 fn p04() {
     let text = "01 63 v:33 01 23 v:1 03 62 E8 3B D5 v:0 03 62 E8 1B D5 v:5
                 02 01 03 62 E8 3B D5 v:0";
-    assert_eq!(sound(text), ["value 0000000000000000 2", "value 0000000000000021 2"]);
+    assert_eq!(answers_of(text), ["value 0000000000000000 2", "value 0000000000000021 2"]);
 }
 
 #[test]
 fn p05() {
     let text = "01 63 v:33 01 23 v:1 01 22 v:1 01 32 v:8 03 62 E8 1B D5 v:5
                 03 62 E8 3B D5 v:0";
-    assert_eq!(sound(text), ["value 0000000000000021 2"]);
+    assert_eq!(answers_of(text), ["value 0000000000000021 2"]);
 }
 
 #[test]
@@ -78,11 +78,11 @@ fn p06() {
     let reads = "02 02 03 62 E8 3B D5 v:0 03 82 E8 3B D5 v:0";
     let swinc = "03 81 9C 1B D5 v:24";
     assert_eq!(
-        sound(&format!("{ON} 02 01 {swinc} {reads}")),
+        answers_of(&format!("{ON} 02 01 {swinc} {reads}")),
         ["value 0000000000000001 2", "value 0000000000000000 2"]
     );
     assert_eq!(
-        sound(&format!("{ON} 02 02 {swinc} {reads}")),
+        answers_of(&format!("{ON} 02 02 {swinc} {reads}")),
         ["value 0000000000000001 2", "value 0000000000000001 2"]
     );
 }
@@ -90,35 +90,35 @@ fn p06() {
 #[test]
 fn p07() {
     let text = &format!("{ON} 01 60 v:4294967295 02 01 03 81 9C 1B D5 v:1 03 02 E8 3B D5 v:0");
-    assert_eq!(sound(text), ["value 0000000100000000 2"]);
-    assert_eq!(sound(&format!("01 01 v:0 01 02 v:0 {text}")), ["value 0000000000000000 2"]);
+    assert_eq!(answers_of(text), ["value 0000000100000000 2"]);
+    assert_eq!(answers_of(&format!("01 01 v:0 01 02 v:0 {text}")), ["value 0000000000000000 2"]);
 }
 
 #[test]
 fn p08() {
     let text = "01 20 v:0 03 81 9C 1B D5 v:0 01 25 v:1 03 81 9C 1B D5 v:0";
-    assert_eq!(sound(text), ["trap 1 6238E438", "trap 2 6238E438"]);
+    assert_eq!(answers_of(text), ["trap 1 6238E438", "trap 2 6238E438"]);
 }
 
 #[test]
 fn p09() {
     let text = "01 23 v:1 01 21 v:1 01 20 v:0 03 81 9C 1B D5 v:8 02 02 03 62 E8 3B D5 v:0";
-    assert_eq!(sound(&format!("{ON} {text}")), ["value 0000000000000001 2"]);
+    assert_eq!(answers_of(&format!("{ON} {text}")), ["value 0000000000000001 2"]);
 }
 
 /// MODEL P10: counter 5 stands in the place of counter 4.
 #[test]
 fn p10() {
     let read = "02 01 03 A2 E8 3B D5 v:0";
-    assert_eq!(sound(&format!("01 27 v:6 {read}")), ["value 0000000000000000 2"]);
-    assert_eq!(sound(&format!("01 27 v:7 {read}")), ["refused 13"]);
+    assert_eq!(answers_of(&format!("01 27 v:6 {read}")), ["value 0000000000000000 2"]);
+    assert_eq!(answers_of(&format!("01 27 v:7 {read}")), ["refused 13"]);
 }
 
 #[test]
 fn p11() {
     let text = "05 00 0C v:0x1FFFFFFFF 04 00 0C";
-    assert_eq!(sound(text), ["value 000000008000003F"]);
-    assert_eq!(sound(&format!("01 03 v:1 {text}")), ["value 000000018000003F"]);
+    assert_eq!(answers_of(text), ["value 000000008000003F"]);
+    assert_eq!(answers_of(&format!("01 03 v:1 {text}")), ["value 000000018000003F"]);
 }
 
 #[test]
@@ -333,7 +333,7 @@ fn generated_sessions_stay_in_range() {
 /// the flags, and the value of counter 3.
 fn carried(value: u64, more: &str) -> [String; 2] {
     let text = format!("{ON} 01 63 v:{value} 01 64 v:{value} {more} 02 02 03 81 9C 1B D5 v:24");
-    let mut answers = sound(&format!("{text} 04 80 0C 03 62 E8 3B D5 v:0")).into_iter();
+    let mut answers = answers_of(&format!("{text} 04 80 0C 03 62 E8 3B D5 v:0")).into_iter();
     let mut next = || answers.next().expect("answer");
     [next(), next()]
 }
@@ -373,10 +373,10 @@ fn carries_out_of_32_or_64_bits() {
 fn hpmn_divides_where_el2_is_implemented() {
     let start = &format!("{ON} 01 63 v:0xFFFFFFFF 01 64 v:0xFFFFFFFF 01 36 v:1 01 10 v:0 02 01");
     let end = "03 81 9C 1B D5 v:24 04 80 0C";
-    assert_eq!(sound(&format!("{start} {end}")), ["value 0000000000000008"]);
-    assert_eq!(sound(&format!("{start} 01 09 v:0 {end}")), ["value 0000000000000018"]);
-    assert_eq!(sound(&format!("{start} 01 27 v:5 {end}")), ["value 0000000000000018"]);
-    assert_eq!(sound(&format!("{start} 01 27 v:3 {end}")), ["value 0000000000000000"]);
+    assert_eq!(answers_of(&format!("{start} {end}")), ["value 0000000000000008"]);
+    assert_eq!(answers_of(&format!("{start} 01 09 v:0 {end}")), ["value 0000000000000018"]);
+    assert_eq!(answers_of(&format!("{start} 01 27 v:5 {end}")), ["value 0000000000000018"]);
+    assert_eq!(answers_of(&format!("{start} 01 27 v:3 {end}")), ["value 0000000000000000"]);
 }
 
 /// A counter that does not move gets no flag, and no flag goes away.
@@ -400,7 +400,7 @@ fn only_increments_set_flags() {
         ("02 02 01 63 v:0 03 81 E8 1B D5 v:0", "value 0000000000000001"),
     ];
     for (more, flags) in rows {
-        assert_eq!(sound(&format!("{start} {more} {end}")), [flags], "{more}");
+        assert_eq!(answers_of(&format!("{start} {more} {end}")), [flags], "{more}");
     }
 }
 
@@ -417,7 +417,7 @@ fn ticks_set_bit_32() {
         ("01 7F v:0xFFFFFFFFFFFFFFFF 01 03 v:0 06 00 01 03 v:1", "value 0000000000000000"),
     ];
     for (more, flags) in rows {
-        assert_eq!(sound(&format!("{start} {more} 04 C0 0C")), [flags], "{more}");
+        assert_eq!(answers_of(&format!("{start} {more} 04 C0 0C")), [flags], "{more}");
     }
 }
 
@@ -442,7 +442,7 @@ fn overflow_flags_have_no_bit_31() {
         assert_eq!(machine.pmovs, if taken { value } else { before });
     }
     let text = "01 03 v:1 05 C0 0C v:0xFFFFFFFFFFFFFFFF 04 80 0C 05 80 0C v:0x180000001 04 C0 0C";
-    assert_eq!(sound(text), ["value 000000010000003F", "value 000000000000003E"]);
+    assert_eq!(answers_of(text), ["value 000000010000003F", "value 000000000000003E"]);
 }
 
 /// Machines that no command makes.
@@ -477,7 +477,7 @@ fn out_of_range() {
 /// Whether counters 3 and 4 go up by one PMSWINC, HPMN being 4 if not changed.
 fn go_up(text: &str) -> [bool; 2] {
     let end = "03 81 9C 1B D5 v:24 03 62 E8 3B D5 v:0 03 82 E8 3B D5 v:0";
-    let answers = sound(&format!("{text} {end}"));
+    let answers = answers_of(&format!("{text} {end}"));
     assert_eq!(answers.len(), 2, "{text}");
     [0, 1].map(|index| match answers[index].as_str() {
         "value 0000000000000000 2" => false,
@@ -568,11 +568,11 @@ fn only_increments_ask_for_e_and_hpme() {
         let moves = "02 02 03 61 E8 1B D5 v:5 03 81 E8 1B D5 v:6
                      03 62 E8 3B D5 v:0 03 82 E8 3B D5 v:0";
         let expected = ["value 0000000000000005 2", "value 0000000000000006 2"];
-        assert_eq!(sound(&format!("{settings} {moves}")), expected);
+        assert_eq!(answers_of(&format!("{settings} {moves}")), expected);
         let ticks = "01 03 v:1 01 34 v:0x100000000 01 7F v:0xFFFFFFFFFFFFFFFF 06 00 06 00 02 02
                      03 02 94 3B D5 v:0 04 80 0C";
         let expected = ["value 0000000000000001 2", "value 0000000100000000"];
-        assert_eq!(sound(&format!("{settings} {ticks}")), expected);
+        assert_eq!(answers_of(&format!("{settings} {ticks}")), expected);
     }
 }
 

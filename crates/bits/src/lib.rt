@@ -24,6 +24,16 @@ pub fn below(n: u64, x: u64) -> u64
     x % (1 << n)
 }
 
+// The bits of x below bit n where the test holds, else all of x.
+pub fn below_where(test: bool, n: u64, x: u64) -> u64
+    ensures { λ r. ⌜ r ≡ cond test (x % 2 ^ n) x ⌝ }
+{
+    if test {
+        return below(n, x);
+    }
+    x
+}
+
 // a where the test holds, else b. (`select` in the crate `traps` says the same of bools: one function cannot serve both types.)
 pub fn pick(test: bool, a: u64, b: u64) -> u64
     ensures { λ r. ⌜ r ≡ cond test a b ⌝ }

@@ -1,27 +1,15 @@
 // Which event counters are enabled (MODEL G14), as a mask, by operations on whole numbers.
-ghost use mathlib.Core.Bool.{cond};
 ghost use mathlib.Core.Path.{_≡_};
-ghost use Prim.Native.Nat.{_%_, _^_};
 ghost use Rattle.bits.specs.Bits.{fromBits};
 ghost use Rattle.rules.specs.Ranges.{counterEnabled};
 use machine::Settings;
-
-// Where the test holds the bits of x below bit n, else all of x.
-pub fn below_where(test: bool, n: u64, x: u64) -> u64
-    ensures { λ r. ⌜ r ≡ cond test (x % 2 ^ n) x ⌝ }
-{
-    if test {
-        return bits::below(n, x);
-    }
-    x
-}
 
 // The enable bits of the first range where E is 1, and those of the second where HPME is.
 pub fn enabled_counters(s: Settings) -> u64
     ensures { λ r. ⌜ r ≡ fromBits 31 (counterEnabled s) ⌝ }
 {
     let enables = s.cnten % 0x80000000;
-    let first_range = below_where(s.features.el2, s.mdcr2.hpmn, enables);
+    let first_range = bits::below_where(s.features.el2, s.mdcr2.hpmn, enables);
     let second_range = enables - first_range;
     bits::pick(s.pmcr.e, first_range, 0) + bits::pick(s.mdcr2.hpme, second_range, 0)
 }

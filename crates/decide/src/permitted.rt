@@ -52,12 +52,12 @@ fn add_mask(v: View, x: u64) -> u64
 {
     let s = v.settings;
     let implemented = bits::below(s.features.n, enabled::enabled_counters(s) & x);
-    let bound = s.execution.el2enabled & (v.level <= 1);
-    let reached = enabled::below_where(bound, s.mdcr2.hpmn, implemented);
+    let el2_limits = s.execution.el2enabled & (v.level <= 1);
+    let accessible = bits::below_where(el2_limits, s.mdcr2.hpmn, implemented);
     if pmuacr_binds(v) & !s.pmuserenr.sw {
-        return reached & s.pmuacr.p;
+        return accessible & s.pmuacr.p;
     }
-    reached
+    accessible
 }
 
 // A permitted access of a register.

@@ -106,14 +106,14 @@ module _ (v : View) (x : ℕ) where
   abbrev enabled : ℕ
   enabled = fromBits 31 (counterEnabled (v .settings))
 
-  -- the operand's bits of enabled counters below N, and of these the ones that are accessible
+  -- the operand's bits of enabled counters below N, and of these the accessible ones
   abbrev pub implemented : ℕ
   implemented = bitAnd enabled x % 2 ^ v .settings .features .n
 
-  abbrev pub reached : ℕ
-  reached = cond (el2Enabled v && upTo 1 v) (implemented % 2 ^ v .settings .mdcr2 .hpmn) implemented
+  abbrev pub accessible : ℕ
+  accessible = cond (el2Enabled v && upTo 1 v) (implemented % 2 ^ v .settings .mdcr2 .hpmn) implemented
 
-  pub mask-steps : cond (holdsBack v) (bitAnd reached (v .settings .pmuacr .p)) reached ≡ addMask v x
+  pub mask-steps : cond (holdsBack v) (bitAnd accessible (v .settings .pmuacr .p)) accessible ≡ addMask v x
   unfolding addMask
   mask-steps =
       let n = v .settings .features .n in

@@ -12,13 +12,19 @@ enabledExamples =
     changes (countersOn ((0x34, 0x7FFFFFF7) ∷ [])) 2 (swinc 0x18) ((0x64, 1) ∷ [])
     ∷ changes (countersOn ((0x34, 0x08) ∷ [])) 2 (swinc 0x18) ((0x63, 1) ∷ [])
     ∷ answers (countersOn ((0x34, 0x180000000) ∷ [])) 2 (swinc 0x18) Answer.Ok
+    ∷ changes (countersOn ((0x0C, 31) ∷ (0x27, 31) ∷ (0x34, 0x40000000) ∷ [])) 1 (swinc 0x7FFFFFFF) ((0x7E, 1) ∷ [])
+    -- MODEL G14: at level 3 too, without p5 too, and at level 0 whatever SW, UEN and the P bit are
+    ∷ answers (countersOn ((0x34, 0x7FFFFFF7) ∷ (0x0A, 1) ∷ [])) 3 (swinc 8) Answer.Ok
+    ∷ answers (countersOn ((0x01, 0) ∷ (0x02, 0) ∷ (0x34, 0x7FFFFFF7) ∷ (0x3E, 0) ∷ [])) 2 (swinc 0x18) Answer.Ok
+    ∷ answers (countersOn ((0x34, 0x7FFFFFF7) ∷ (0x20, 0) ∷ (0x32, 8) ∷ on (0x21 ∷ 0x23 ∷ []))) 0 (swinc 8) Answer.Ok
     -- MODEL G14: neither the enable bits alone, nor E and HPME alone
     ∷ answers ((0x34, 0x7FFFFFFF) ∷ []) 2 (swinc 0x18) Answer.Ok
     ∷ answers (on (0x3D ∷ 0x3E ∷ [])) 2 (swinc 0x18) Answer.Ok
-    -- MODEL G14: E below HPMN, at levels 0 to 2; HPME does not help there
+    -- MODEL G14: E below HPMN, at every level; HPME does not help there
     ∷ answers (countersOn ((0x3D, 0) ∷ [])) 0 (swinc 0x18) Answer.Ok
     ∷ answers (countersOn ((0x3D, 0) ∷ [])) 1 (swinc 0x18) Answer.Ok
     ∷ changes (countersOn ((0x3D, 0) ∷ [])) 2 (swinc 0x18) ((0x64, 1) ∷ [])
+    ∷ changes (countersOn ((0x34, 0x7FFFFFEF) ∷ (0x3D, 0) ∷ (0x0A, 1) ∷ [])) 3 (swinc 0x38) ((0x65, 1) ∷ [])
     -- MODEL G14: HPME from HPMN on, at levels 2 and 3; E does not help there. Below HPMN it is not looked at
     ∷ changes (countersOn ((0x3E, 0) ∷ [])) 2 (swinc 0x18) ((0x63, 1) ∷ [])
     ∷ changes (countersOn ((0x3E, 0) ∷ (0x0A, 1) ∷ [])) 3 (swinc 0x18) ((0x63, 1) ∷ [])

@@ -11,7 +11,7 @@ use Rattle.machine.specs.declared.Outcome.{Outcome}
 use Rattle.machine.specs.Machine.{withLevel, withOvs}
 use Rattle.machine.specs.Outcome.{says}
 use Rattle.fields.specs.Set.{set}
-use Rattle.rules.specs.Example.{Example, perform, usual, answers, trap, gives, swinc, mrs3, msr3}
+use Rattle.rules.specs.Example.{Example, countersOn, perform, usual, answers, trap, gives, swinc, mrs3, msr3}
 use Rattle.rules.specs.Example.Action.{access, read, write, ticks}
 
 -- MODEL P12 and V3: for R10 to R17
@@ -30,7 +30,7 @@ stateExamples =
     ∷ answers ((0x27, 0) ∷ (0x10, 0) ∷ (0x09, 0) ∷ (0x63, 9) ∷ []) 1 mrs3 (gives 9)
     ∷ answers ((0x27, 0) ∷ (0x06, 1) ∷ []) 1 mrs3 (trap El2 0x6236F851)
     -- MODEL R15: a counter from N on; not with p5, and not for the instruction counter
-    ∷ answers ((0x01, 0) ∷ (0x02, 0) ∷ (0x7E, 0x100000000) ∷ []) 1 (swinc 1) (Answer.Refused CounterTooWide)
+    ∷ answers (countersOn ((0x01, 0) ∷ (0x02, 0) ∷ (0x7E, 0x100000000) ∷ [])) 1 (swinc 1) (Answer.Refused CounterTooWide)
     ∷ answers ((0x7E, 0x100000000) ∷ (0x63, 9) ∷ []) 1 mrs3 (gives 9)
     ∷ answers ((0x01, 0) ∷ (0x02, 0) ∷ (0x7E, 0xFFFFFFFF) ∷ (0x7F, 0x100000000) ∷ (0x63, 9) ∷ []) 1 mrs3 (gives 9)
     -- MODEL R16: not while EL2 is not enabled, and not at level 2

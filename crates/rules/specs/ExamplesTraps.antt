@@ -13,7 +13,11 @@ trapExamples =
     answers [] 1 (access 0xD53B9C02 0) Answer.Other
     ∷ answers [] 1 (access 0xD503201F 0) Answer.Other
     -- MODEL U1, U3: without PMUv3. MODEL U4: MRS of PMSWINC. MODEL U2: also without FGT
-    ∷ shows ((0x00, 0) ∷ (0x01, 0) ∷ (0x02, 0) ∷ []) 2 (mrs3 ∷ swinc 1 ∷ []) (Answer.Undef ∷ Answer.Undef ∷ []) []
+    ∷ shows (countersOn ((0x00, 0) ∷ (0x01, 0) ∷ (0x02, 0) ∷ []))
+    2
+    (mrs3 ∷ swinc 1 ∷ [])
+    (Answer.Undef ∷ Answer.Undef ∷ [])
+    []
     ∷ answers [] 2 (access 0xD53B9C81 0) Answer.Undef
     ∷ answers ((0x04, 0) ∷ []) 2 (access 0xD53BE8C2 0) Answer.Undef
     -- MODEL T1: before T2; before T5; and with one of its conditions missing, where T5 decides
@@ -27,7 +31,7 @@ trapExamples =
     -- MODEL T2, T7: EN and ER 0; ER lets a read pass and no write; UEN enables nothing; TGE counts with EL2 enabled only
     ∷ answers ((0x20, 0) ∷ []) 0 mrs3 (trap El1 0x6236F851)
     ∷ shows ((0x20, 0) ∷ (0x22, 1) ∷ (0x63, 9) ∷ []) 0 (mrs3 ∷ msr3 5 ∷ []) (gives 9 ∷ trap El1 0x6236F850 ∷ []) []
-    ∷ shows ((0x20, 0) ∷ (0x23, 1) ∷ [])
+    ∷ shows (countersOn ((0x20, 0) ∷ (0x23, 1) ∷ []))
     0
     (mrs3 ∷ msr3 5 ∷ swinc 8 ∷ [])
     (trap El1 0x6236F851 ∷ trap El1 0x6236F850 ∷ trap El1 0x6238E438 ∷ [])
@@ -64,7 +68,11 @@ trapExamples =
     ∷ answers ((0x2C, 1) ∷ (0x25, 1) ∷ []) 0 mrs3 (trap El2 0x6236F851)
     ∷ answers ((0x63, 9) ∷ on (0x2C ∷ 0x24 ∷ 0x25 ∷ [])) 0 mrs3 (gives 9)
     -- MODEL T4: both registers, at levels 0 and 1; before T6; not while EL2 is not enabled, not at level 2
-    ∷ shows ((0x26, 1) ∷ []) 1 (mrs3 ∷ swinc 8 ∷ []) (trap El2 0x6236F851 ∷ trap El2 0x6238E438 ∷ []) []
+    ∷ shows (countersOn ((0x26, 1) ∷ []))
+    1
+    (mrs3 ∷ swinc 8 ∷ [])
+    (trap El2 0x6236F851 ∷ trap El2 0x6238E438 ∷ [])
+    []
     ∷ answers ((0x26, 1) ∷ []) 0 mrs3 (trap El2 0x6236F851)
     ∷ answers (on (0x26 ∷ 0x0A ∷ 0x28 ∷ [])) 1 mrs3 (trap El2 0x6236F851)
     ∷ answers ((0x26, 1) ∷ (0x10, 0) ∷ (0x63, 9) ∷ []) 1 mrs3 (gives 9)

@@ -55,9 +55,10 @@ rule3 v trapBit =
 abbrev pub rule4 : View → Bool
 rule4 v = el2Enabled v && upTo 1 v && v .settings .mdcr2 .tpm
 
--- MODEL T5 and G9: event counter m is inaccessible from the level: at EL0 and EL1 from HPMN on, while EL2 is enabled. Arm: m is
--- not below GetNumEventCountersAccessible(). T5 holds without FGT too, where Arm's page 001 leaves a choice. Which bits control
--- a counter is `inSecondRange` (Ranges.antt), which asks whether EL2 is implemented, at every level
+-- MODEL T5 and G9: event counter m is inaccessible from the level: at EL0 and EL1 from HPMN on, while EL2 is enabled. (Of the
+-- counters below N these are the ones from Arm's GetNumEventCountersAccessible() on.) T5 holds without FGT too, where Arm's page
+-- 001 leaves a choice. Which bits control a counter is `inSecondRange` (Ranges.antt), which asks whether EL2 is implemented, at
+-- every level
 abbrev pub inaccessible : View → ℕ → Bool
 inaccessible v m = el2Enabled v && upTo 1 v && leb (v .settings .mdcr2 .hpmn) m
 

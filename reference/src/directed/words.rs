@@ -56,6 +56,7 @@ fn neighbours_session(word: u32, given: &[Change]) -> Vec<u8> {
 /// Every CRm and op2 with a CRn; trapped, so that the syndrome shows too.
 fn crn_session(read: bool, crn: u32) -> Vec<u8> {
     let mut script = Script::new(&GIVEN);
+    script.put(&RUNNING);
     script.put(&[TRAPPED]);
     for crm in 0..16 {
         for op2 in 0..8 {
@@ -68,6 +69,7 @@ fn crn_session(read: bool, crn: u32) -> Vec<u8> {
 /// Every CRn, op1 and op0 with the CRm and op2 of each register.
 fn prefix_session(read: bool) -> Vec<u8> {
     let mut script = Script::new(&GIVEN);
+    script.put(&RUNNING);
     script.put(&[TRAPPED]);
     for (crn, crm, op2) in [(14, 8, 0), (14, 11, 7), (9, 12, 4), (9, 4, 0)] {
         for other in 0..16 {
@@ -134,9 +136,11 @@ fn syndrome_session(read: bool) -> Vec<u8> {
 }
 
 /// MODEL U1 to U5: undefined at once, ahead of every rule. At each level, with
-/// the condition flipped, while T2, T4 and T6 all apply or none does.
+/// the condition flipped, while T2, T4 and T6 all apply or none does. Counters
+/// are on, so that an increment would show.
 fn undefined_session() -> Vec<u8> {
     let mut script = Script::new(&GIVEN);
+    script.put(&RUNNING);
     script.put(&[(HAVE_EL3, 1), (HPMN, 2), (N, 4)]);
     let stopped = [(EN, 1), (ENPM2, 1), (TPM_EL2, 0), (TPM_EL3, 0)];
     for changes in [stopped, [(EN, 0), (ENPM2, 0), (TPM_EL2, 1), (TPM_EL3, 1)]] {

@@ -1,0 +1,3 @@
+-- The laws of the loop of PMSWINC.
+pub mod Turns
+pub mod FlagTurns
