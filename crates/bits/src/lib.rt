@@ -1,4 +1,4 @@
-// Bits of numbers: one bit, and the lowest ones; and a choice between two numbers.
+// Bits of numbers: one bit, and the lowest ones; and a choice between two numbers or two bools.
 ghost use mathlib.Core.Bool.{cond};
 ghost use mathlib.Core.Path.{_≡_};
 ghost use Prim.Native.Nat.{_%_, _^_};
@@ -34,8 +34,15 @@ pub fn below_where(test: bool, n: u64, x: u64) -> u64
     x
 }
 
-// a where the test holds, else b. (`select` in the crate `traps` says the same of bools: one function cannot serve both types.)
+// a where the test holds, else b.
 pub fn pick(test: bool, a: u64, b: u64) -> u64
+    ensures { λ r. ⌜ r ≡ cond test a b ⌝ }
+{
+    if test { a } else { b }
+}
+
+// The same choice of two bools: one function can't serve both types.
+pub fn select(test: bool, a: bool, b: bool) -> bool
     ensures { λ r. ⌜ r ≡ cond test a b ⌝ }
 {
     if test { a } else { b }

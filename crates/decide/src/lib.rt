@@ -34,7 +34,7 @@ fn stop_of(v: View, r: Register, read: bool) -> Stop
     match r {
         Register::Pmevcntr(m) => traps::pmevcntr_stop(v, read, m),
         Register::Pmswinc => traps::pmswinc_stop(v),
-        Register::Pmicntr => traps::pmicntr_stop(v, read),
+        Register::Pmicntr => icntr::pmicntr_stop(v, read),
         Register::Other => Stop::Pass,
     }
 }

@@ -1,6 +1,5 @@
 // External accesses and the tick: what is to be done, decided from a view in which there is no counter and no overflow flag,
 // and the doing.
-pub mod flags; // flags.rt: the bits of the registers that are in reach, set and cleared
 mod reach; // reach.rt: how far an access at an offset gets
 
 ghost use mathlib.Core.Path.{_≡_};
@@ -96,7 +95,7 @@ fn with_cnten(e: u64, r: Machine) -> Machine
 fn ovs_counted(y: u64, ovs: u64) -> u64
     ensures { λ o. ⌜ o ≡ ovsCounted y ovs ⌝ }
 {
-    flags::raised(flags::part(y == 0xFFFFFFFFFFFFFFFF, 0x100000000), ovs)
+    flags::raised(bits::pick(y == 0xFFFFFFFFFFFFFFFF, 0x100000000, 0), ovs)
 }
 
 // What an effect answers and does to the record.

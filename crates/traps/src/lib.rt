@@ -1,17 +1,9 @@
-// The orders of traps (MODEL T, I): each rule's test, and the first that applies. `rule3` is T3, and so on.
+// The order of traps of PMEVCNTR and PMSWINC (MODEL T): each rule's test, and the first that applies. `rule3` is T3, and so on.
 ghost use mathlib.Core.Path.{_≡_};
-ghost use mathlib.Core.Bool.{cond};
-ghost use Rattle.rules.specs.Traps.{disabledTrap, stopAtEl3, counterOrder, pmevcntrStop, pmswincStop, icntrOrder, pmicntrStop};
+ghost use Rattle.rules.specs.Traps.{disabledTrap, stopAtEl3, counterOrder, pmevcntrStop, pmswincStop};
 use answer::Level;
 use rules::Stop;
 use state::View;
-
-// a where the test holds, else b.
-fn select(test: bool, a: bool, b: bool) -> bool
-    ensures { λ r. ⌜ r ≡ cond test a b ⌝ }
-{
-    if test { a } else { b }
-}
 
 // The target of MODEL T2.
 fn disabled_trap(v: View) -> Stop
@@ -23,8 +15,8 @@ fn disabled_trap(v: View) -> Stop
     Stop::Trap(Level::El1)
 }
 
-// A stop at EL3.
-fn stop_at_el3(v: View) -> Stop
+// A stop at EL3, of PMICNTR too.
+pub fn stop_at_el3(v: View) -> Stop
     ensures { λ r. ⌜ r ≡ stopAtEl3 v ⌝ }
 {
     if v.settings.execution.halted & v.settings.execution.sdd {
@@ -80,8 +72,8 @@ pub fn pmevcntr_stop(v: View, read: bool, m: u64) -> Stop
     ensures { λ r. ⌜ r ≡ pmevcntrStop v read m ⌝ }
 {
     let s = v.settings;
-    let disabled = select(read, !s.pmuserenr.en & !s.pmuserenr.er, !s.pmuserenr.en);
-    let trap_bit = select(read, s.hdfgrtr.pmevcntrn, s.hdfgwtr.pmevcntrn);
+    let disabled = bits::select(read, !s.pmuserenr.en & !s.pmuserenr.er, !s.pmuserenr.en);
+    let trap_bit = bits::select(read, s.hdfgrtr.pmevcntrn, s.hdfgwtr.pmevcntrn);
     let inaccessible = s.execution.el2enabled & (v.level <= 1) & (s.mdcr2.hpmn <= m);
     counter_order(v, disabled, trap_bit, inaccessible)
 }
@@ -97,54 +89,4 @@ pub fn pmswinc_stop(v: View) -> Stop
         s.hdfgwtr.pmswinc,
         false,
     )
-}
-
-// The order for PMICNTR, from the fine-grained bit of the direction, by which the access is allowed.
-fn icntr_order(v: View, allowed: bool) -> Stop
-    ensures { λ r. ⌜ r ≡ icntrOrder v allowed ⌝ }
-{
-    let level = v.level;
-    let s = v.settings;
-    let el2 = s.execution.el2enabled;
-    let el3 = s.features.el3;
-    let halted_sdd = s.execution.halted & s.execution.sdd;
-    let not_host_el0 = !((level == 0) & s.hcr.e2h & s.hcr.tge);
-    let rule1 = el3
-        & (level <= 2)
-        & halted_sdd
-        & s.features.el3prio
-        & (!s.mdcr3.enpm2 | s.mdcr3.tpm);
-    let rule2 = el2 & (level <= 1) & not_host_el0 & s.features.fgt2 & el3 & !s.scr.fgten2;
-    let rule3 = el2 & (level <= 1) & not_host_el0 & s.features.fgt2 & !allowed;
-    let rule4 = el2 & (level <= 1) & s.mdcr2.tpm;
-    let rule5 = el3 & (level <= 2) & !s.mdcr3.enpm2;
-    let rule6 = el3 & (level <= 2) & s.mdcr3.tpm;
-    if rule1 {
-        return Stop::Undef;
-    }
-    if rule2 {
-        return Stop::Trap(Level::El2);
-    }
-    if rule3 {
-        return Stop::Trap(Level::El2);
-    }
-    if rule4 {
-        return Stop::Trap(Level::El2);
-    }
-    if rule5 {
-        return stop_at_el3(v);
-    }
-    if rule6 {
-        return stop_at_el3(v);
-    }
-    Stop::Pass
-}
-
-// The order of traps for PMICNTR.
-pub fn pmicntr_stop(v: View, read: bool) -> Stop
-    ensures { λ r. ⌜ r ≡ pmicntrStop v read ⌝ }
-{
-    let s = v.settings;
-    let allowed = select(read, s.hdfgrtr.npmicntr, s.hdfgwtr.npmicntr);
-    icntr_order(v, allowed)
 }

@@ -6,7 +6,7 @@ use Rattle.external.proofs.ovs_counted.Tie as tie
 returns : tie.Need-returns
 returns c =
     let at-start = c .before .before in
-    simp (c .raised .ensures, c .before .part .ensures)
+    simp (c .raised .ensures, c .before .pick .ensures)
     (counted-flag (at-start .args .y) (at-start .args .ovs) (at-start .fits .y .fits))
 
 pub ovs-counted-spec : {M : Type 1} → statement M

@@ -1,8 +1,8 @@
--- `external::flags::lowered` meets its contract: a difference.
+-- `flags::lowered` meets its contract: a difference.
 use mathlib.Core.Path.{sym}
 use Rattle.rules.proofs.Flags.{lowered-difference}
-use Rattle.external.proofs.flags.lowered.Statement.{statement}
-use Rattle.external.proofs.flags.lowered.Tie as tie
+use Rattle.flags.proofs.lowered.Statement.{statement}
+use Rattle.flags.proofs.lowered.Tie as tie
 
 returns : tie.Need-returns
 returns c = sym (lowered-difference (c .args .mask) (c .args .flags))

@@ -1,8 +1,8 @@
--- `external::flags::raised` meets its contract: a union.
+-- `flags::raised` meets its contract: a union.
 use mathlib.Core.Path.{sym}
 use Rattle.rules.proofs.Flags.{raised-union}
-use Rattle.external.proofs.flags.raised.Statement.{statement}
-use Rattle.external.proofs.flags.raised.Tie as tie
+use Rattle.flags.proofs.raised.Statement.{statement}
+use Rattle.flags.proofs.raised.Tie as tie
 
 returns : tie.Need-returns
 returns c = sym (raised-union (c .args .mask) (c .args .flags))

@@ -1,12 +1,12 @@
--- `external::flags::shown_of` meets its contract: the sum that is shown, of which no part meets another.
+-- `flags::shown_of` meets its contract: the sum that is shown, of which no part meets another.
 use Prim.Native.Nat.{_*_, _/_, _%_, _^_}
 use mathlib.Core.Path.{sym}
 use native.Mathlib.Nat.{mod-le}
 use native.Mathlib.Omega.{arith}
 use Rattle.rules.proofs.Shown.{part-le, shown-sum}
 use borrow.Author.Needs.{needs}
-use Rattle.external.proofs.flags.shown_of.Statement.{statement}
-use Rattle.external.proofs.flags.shown_of.Tie as tie
+use Rattle.flags.proofs.shown_of.Statement.{statement}
+use Rattle.flags.proofs.shown_of.Tie as tie
 
 add-result : tie.Need-add-result
 add-result c =
@@ -16,7 +16,7 @@ add-result c =
       arith,
       at-below .below .ensures,
       mod-le (at-start .args .x % 2 ^ 31) (2 ^ at-start .args .s .features .n),
-      c .before .part .ensures,
+      c .before .pick .ensures,
       part-le (at-start .args .cycles) ((at-start .args .x / 2 ^ 31 % 2) * 2 ^ 31),
     )
 
@@ -28,9 +28,9 @@ add-result-2 c =
       arith,
       at-below .below .ensures,
       mod-le (at-start .args .x % 2 ^ 31) (2 ^ at-start .args .s .features .n),
-      c .before .part .ensures,
+      c .before .pick .ensures,
       part-le (at-start .args .cycles) ((at-start .args .x / 2 ^ 31 % 2) * 2 ^ 31),
-      c .part2 .ensures,
+      c .pick2 .ensures,
       part-le (at-start .args .s .features .icntr) ((at-start .args .x / 2 ^ 32 % 2) * 2 ^ 32),
     )
 
@@ -38,7 +38,7 @@ returns : tie.Need-returns
 returns c =
     let at-below = c .before .before in
     let at-start = at-below .before in
-    simp (at-below .below .ensures, c .before .part .ensures, c .part2 .ensures)
+    simp (at-below .below .ensures, c .before .pick .ensures, c .pick2 .ensures)
     (sym (shown-sum (at-start .args .cycles) (at-start .args .s) (at-start .args .x)))
 
 pub shown-of-spec : {M : Type 1} → statement M

@@ -1,12 +1,12 @@
--- `traps::icntr_order` meets its contract: a case for each rule, and one for the end of the order.
+-- `icntr::icntr_order` meets its contract: a case for each rule, and one for the end of the order.
 use mathlib.Core.Bool.{Bool}
 use mathlib.Core.Path.{_≡_, refl}
 use Rattle.machine.proofs.First.{Picks, none, _↓_, held, picked}
 use Rattle.state.specs.declared.View.{View}
 use Rattle.rules.specs.declared.Stop.{Stop}
 use Rattle.rules.specs.Traps.{icntrRules, icntrOrder}
-use Rattle.traps.proofs.icntr_order.Statement.{statement}
-use Rattle.traps.proofs.icntr_order.Tie as tie
+use Rattle.icntr.proofs.icntr_order.Statement.{statement}
+use Rattle.icntr.proofs.icntr_order.Tie as tie
 
 row : (v : View) (nPMICNTR : Bool) {x : Stop} → Picks Stop.Pass x (icntrRules v nPMICNTR) → x ≡ icntrOrder v nPMICNTR
 unfolding icntrOrder

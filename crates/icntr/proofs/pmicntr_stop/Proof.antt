@@ -1,8 +1,8 @@
--- `traps::pmicntr_stop` meets its contract.
+-- `icntr::pmicntr_stop` meets its contract.
 use mathlib.Core.Path.{sym}
 use Rattle.rules.specs.Traps.{pmicntrStop}
-use Rattle.traps.proofs.pmicntr_stop.Statement.{statement}
-use Rattle.traps.proofs.pmicntr_stop.Tie as tie
+use Rattle.icntr.proofs.pmicntr_stop.Statement.{statement}
+use Rattle.icntr.proofs.pmicntr_stop.Tie as tie
 
 returns : tie.Need-returns
 unfolding pmicntrStop

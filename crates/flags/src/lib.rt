@@ -1,18 +1,10 @@
 // The flags of the external registers, counter enables and overflow flags alike: which of them are in reach, and how they are
 // set and cleared.
-ghost use mathlib.Core.Bool.{cond};
 ghost use mathlib.Core.Path.{_≡_};
 ghost use Rattle.bits.specs.Bits.{bit};
 ghost use Rattle.rules.specs.External.{shownOf};
 ghost use Rattle.rules.specs.Overflow.{raised, lowered};
 use machine::Settings;
-
-// x where the test holds, else 0.
-pub fn part(test: bool, x: u64) -> u64
-    ensures { λ r. ⌜ r ≡ cond test x 0 ⌝ }
-{
-    if test { x } else { 0 }
-}
 
 // The bits of x in reach: those of the event counters m < N, bit 31 where the register has the cycle counter's, and bit 32 with
 // ICNTR.
@@ -20,8 +12,8 @@ pub fn shown_of(cycles: bool, s: Settings, x: u64) -> u64
     ensures { λ r. ⌜ r ≡ shownOf cycles s x ⌝ }
 {
     let counters = bits::below(s.features.n, x % 0x80000000);
-    let cycle = part(cycles, (x >> 31) % 2 * 0x80000000);
-    let instructions = part(s.features.icntr, (x >> 32) % 2 * 0x100000000);
+    let cycle = bits::pick(cycles, (x >> 31) % 2 * 0x80000000, 0);
+    let instructions = bits::pick(s.features.icntr, (x >> 32) % 2 * 0x100000000, 0);
     counters + cycle + instructions
 }
 
