@@ -42,8 +42,8 @@ pub fn pick(test: bool, a: u64, b: u64) -> u64
 }
 
 // The same choice of two bools: one function can't serve both types.
-pub fn select(test: bool, a: bool, b: bool) -> bool
-    ensures { λ r. ⌜ r ≡ cond test a b ⌝ }
+pub fn select(test: bool, yes: bool, no: bool) -> bool
+    ensures { λ r. ⌜ r ≡ cond test yes no ⌝ }
 {
-    if test { a } else { b }
+    if test { yes } else { no }
 }
