@@ -34,7 +34,7 @@ fn in_place(sets: &[u64], list: &[u64], operand: u64) -> u64 {
 fn worth(answer: Answer) -> u64 {
     match answer {
         Answer::Ok => 1,
-        Answer::Trap { syndrome, .. } => syndrome as u64,
+        Answer::Trap { syndrome, cause, .. } => syndrome as u64 + cause.number() as u64,
         Answer::Moved { value, .. } | Answer::Value(value) => value,
         _ => 0,
     }

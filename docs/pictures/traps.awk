@@ -160,7 +160,8 @@ function legend(x, y,    i, name, k) {
 function hints(x, y,    i, k, line) {
     text(x, y, 13, INK, "How to read it", " font-weight=\"bold\"")
     k = wrap("From the top, the first box that applies decides. A rule is for the levels in its head, and applies where" \
-        " all its lines hold. A letter with a number is a clause of MODEL.md.", 230, 13, line)
+        " all its lines hold. The line of a trap ends with the cause. A letter with a number is a clause of MODEL.md.", \
+        230, 13, line)
     for (i = 1; i <= k; i++) text(x, y + 6 + 19 * i, 13, INK, line[i])
 }
 
@@ -168,7 +169,8 @@ function hints(x, y,    i, k, line) {
 function told(s,    r, t) {
     t = " " title[s] ":"
     for (r = 1; r <= rows[s]; r++)
-        t = t " " cell[s, r, 1] ", " levels(cell[s, r, 2]) ", where " cell[s, r, 3] ": " cell[s, r, 4] "."
+        t = t " " cell[s, r, 1] ", " levels(cell[s, r, 2]) ", where " cell[s, r, 3] ": " cell[s, r, 4] \
+            (cell[s, r, 5] == "" ? "" : ", " cell[s, 0, 5] " " cell[s, r, 5]) "."
     return t
 }
 
@@ -183,7 +185,7 @@ END {
     if (common + 2 != parts || !sub(/^else it is /, "", permitted)) fail("A2 does not end with the order of traps; else it is ..")
     sub(/\.$/, "", permitted)
 
-    name = "Who stops an access, in which order, and who gets the trap"
+    name = "Who stops an access, in which order, who gets the trap, and its cause"
     text(MARGIN, 36, 20, INK, name, " font-weight=\"bold\"")
     middle = MARGIN + int(COLUMN / 2)
     pill(middle, 64, "an access (A1)")

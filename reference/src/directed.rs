@@ -3,6 +3,7 @@
 //! or a second rule applies too. They are made from tables, one subject a file,
 //! and are the same every time. Most end by reading what may have changed.
 
+mod causes;
 mod counters;
 mod external;
 mod fields;
@@ -44,6 +45,7 @@ pub fn all() -> Vec<Session> {
         words::sessions,
         traps::sessions,
         icntr::sessions,
+        causes::sessions,
         counters::sessions,
         swinc::sessions,
         external::sessions,

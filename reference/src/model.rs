@@ -10,8 +10,8 @@ pub enum Answer {
     Undefined,
     Other,
     Error,
-    /// Target exception level and syndrome.
-    Trap { target: u8, syndrome: u32 },
+    /// Target exception level, syndrome, and the control that stopped the access.
+    Trap { target: u8, syndrome: u32, cause: Cause },
     /// What MRS puts into register Xt.
     Moved { value: u64, rt: u8 },
     /// What an external read shows.
@@ -19,12 +19,51 @@ pub enum Answer {
     Refused(u8),
 }
 
+/// MODEL D0: the control that a trap is owed to, the one that the branch of the pseudocode
+/// tests last. What only switches that branch on or off (E2H, TGE, FGTEn, whether
+/// EL2 is enabled or EL3 implemented) is never a cause. An access that is
+/// undefined has none, even where a bit of MDCR_EL3 made it so.
+#[derive(Clone, Copy, Debug, PartialEq, Eq)]
+pub enum Cause {
+    /// PMUSERENR_EL0 does not let EL0 use the register, wherever the trap goes.
+    Pmuserenr,
+    /// The bit of the register and direction in HDFGRTR_EL2, HDFGWTR_EL2 or, for
+    /// PMICNTR_EL0, in HDFGRTR2_EL2, HDFGWTR2_EL2.
+    FineGrained,
+    /// MDCR_EL2.TPM is 1.
+    MdcrEl2Tpm,
+    /// MDCR_EL2.HPMN is not above the number of the counter.
+    Hpmn,
+    /// MDCR_EL3.TPM is 1.
+    MdcrEl3Tpm,
+    /// MDCR_EL3.EnPM2 is 0.
+    Enpm2,
+    /// SCR_EL3.FGTEn2 is 0.
+    Fgten2,
+}
+
+impl Cause {
+    /// MODEL D1 to D7: the number that document 02 gives it.
+    pub fn number(self) -> u8 {
+        match self {
+            Cause::Pmuserenr => 1,
+            Cause::FineGrained => 2,
+            Cause::MdcrEl2Tpm => 3,
+            Cause::Hpmn => 4,
+            Cause::MdcrEl3Tpm => 5,
+            Cause::Enpm2 => 6,
+            Cause::Fgten2 => 7,
+        }
+    }
+}
+
 /// Where the pseudocode of a page leads before the access itself.
 #[derive(Clone, Copy, Debug, PartialEq, Eq)]
 enum Flow {
     Permitted,
     Undefined,
-    Trap(u8),
+    /// The target level, and what the branch tested.
+    Trap(u8, Cause),
 }
 
 use Flow::{Permitted, Trap, Undefined};
@@ -354,21 +393,18 @@ impl Machine {
     }
 
     /// A trap to EL3, undefined in Debug state with SDD.
-    fn stop_at_el3(&self) -> Flow {
+    fn stop_at_el3(&self, cause: Cause) -> Flow {
         if self.halted && self.sdd {
             Undefined
         } else {
-            Trap(EL3)
+            Trap(EL3, cause)
         }
     }
 
     /// The trap of an access that PMUSERENR_EL0 disables at EL0.
     fn disabled_trap(&self) -> Flow {
-        if self.el2_enabled && self.tge {
-            Trap(EL2)
-        } else {
-            Trap(EL1)
-        }
+        let target = if self.el2_enabled && self.tge { EL2 } else { EL1 };
+        Trap(target, Cause::Pmuserenr)
     }
 
     /// HCR_EL2.<E2H,TGE> == '11'
@@ -390,11 +426,11 @@ impl Machine {
         } else if !self.sw && !self.en {
             self.disabled_trap()
         } else if self.el2_enabled && !self.e2h_tge() && self.fgt_in_use() && self.hdfgwtr_pmswinc {
-            Trap(EL2)
+            Trap(EL2, Cause::FineGrained)
         } else if self.el2_enabled && self.mdcr_el2_tpm {
-            Trap(EL2)
+            Trap(EL2, Cause::MdcrEl2Tpm)
         } else if self.have_el3 && self.mdcr_el3_tpm {
-            self.stop_at_el3()
+            self.stop_at_el3(Cause::MdcrEl3Tpm)
         } else {
             Permitted
         }
@@ -404,11 +440,11 @@ impl Machine {
         if self.el3_priority() && self.mdcr_el3_tpm {
             Undefined
         } else if self.el2_enabled && self.fgt_in_use() && self.hdfgwtr_pmswinc {
-            Trap(EL2)
+            Trap(EL2, Cause::FineGrained)
         } else if self.el2_enabled && self.mdcr_el2_tpm {
-            Trap(EL2)
+            Trap(EL2, Cause::MdcrEl2Tpm)
         } else if self.have_el3 && self.mdcr_el3_tpm {
-            self.stop_at_el3()
+            self.stop_at_el3(Cause::MdcrEl3Tpm)
         } else {
             Permitted
         }
@@ -419,7 +455,7 @@ impl Machine {
         if self.el3_priority() && self.mdcr_el3_tpm {
             Undefined
         } else if self.have_el3 && self.mdcr_el3_tpm {
-            self.stop_at_el3()
+            self.stop_at_el3(Cause::MdcrEl3Tpm)
         } else {
             Permitted
         }
@@ -508,7 +544,7 @@ impl Machine {
             self.disabled_trap()
         } else if self.el2_enabled && !self.e2h_tge() && self.fgt_in_use() && self.hdfgrtr_pmevcntrn
         {
-            Trap(EL2)
+            Trap(EL2, Cause::FineGrained)
         } else {
             self.pmevcntr_after_fgt(m)
         }
@@ -521,7 +557,7 @@ impl Machine {
             self.disabled_trap()
         } else if self.el2_enabled && !self.e2h_tge() && self.fgt_in_use() && self.hdfgwtr_pmevcntrn
         {
-            Trap(EL2)
+            Trap(EL2, Cause::FineGrained)
         } else {
             self.pmevcntr_after_fgt(m)
         }
@@ -532,7 +568,7 @@ impl Machine {
         if self.el3_priority() && self.mdcr_el3_tpm {
             Undefined
         } else if self.el2_enabled && self.fgt_in_use() && fine_grained {
-            Trap(EL2)
+            Trap(EL2, Cause::FineGrained)
         } else {
             self.pmevcntr_after_fgt(m)
         }
@@ -543,11 +579,11 @@ impl Machine {
     /// not accessible; T5 traps it.
     fn pmevcntr_after_fgt(&self, m: u8) -> Flow {
         if self.el2_enabled && self.mdcr_el2_tpm {
-            Trap(EL2)
+            Trap(EL2, Cause::MdcrEl2Tpm)
         } else if self.el2_enabled && m >= self.hpmn {
-            Trap(EL2)
+            Trap(EL2, Cause::Hpmn)
         } else if self.have_el3 && self.mdcr_el3_tpm {
-            self.stop_at_el3()
+            self.stop_at_el3(Cause::MdcrEl3Tpm)
         } else {
             Permitted
         }
@@ -601,11 +637,11 @@ impl Machine {
             Undefined
         } else if self.el2_enabled && !self.e2h_tge() && self.fgt2 && self.have_el3 && !self.fgten2
         {
-            Trap(EL2)
+            Trap(EL2, Cause::Fgten2)
         } else if self.el2_enabled && !self.e2h_tge() && self.fgt2 && !npmicntr {
-            Trap(EL2)
+            Trap(EL2, Cause::FineGrained)
         } else if self.el2_enabled && self.mdcr_el2_tpm {
-            Trap(EL2)
+            Trap(EL2, Cause::MdcrEl2Tpm)
         } else {
             self.pmicntr_el3_traps()
         }
@@ -617,11 +653,11 @@ impl Machine {
         } else if self.el3_priority() && self.mdcr_el3_tpm {
             Undefined
         } else if self.el2_enabled && self.fgt2 && self.have_el3 && !self.fgten2 {
-            Trap(EL2)
+            Trap(EL2, Cause::Fgten2)
         } else if self.el2_enabled && self.fgt2 && !npmicntr {
-            Trap(EL2)
+            Trap(EL2, Cause::FineGrained)
         } else if self.el2_enabled && self.mdcr_el2_tpm {
-            Trap(EL2)
+            Trap(EL2, Cause::MdcrEl2Tpm)
         } else {
             self.pmicntr_el3_traps()
         }
@@ -640,9 +676,9 @@ impl Machine {
     /// The last rules at EL0 to EL2.
     fn pmicntr_el3_traps(&self) -> Flow {
         if self.have_el3 && !self.enpm2 {
-            self.stop_at_el3()
+            self.stop_at_el3(Cause::Enpm2)
         } else if self.have_el3 && self.mdcr_el3_tpm {
-            self.stop_at_el3()
+            self.stop_at_el3(Cause::MdcrEl3Tpm)
         } else {
             Permitted
         }
@@ -702,7 +738,7 @@ impl Machine {
         };
         match flow {
             Undefined => Answer::Undefined,
-            Trap(target) => Answer::Trap { target, syndrome: instruction.syndrome() },
+            Trap(target, cause) => Answer::Trap { target, syndrome: instruction.syndrome(), cause },
             Permitted if instruction.read => {
                 Answer::Moved { value: self.read(register), rt: instruction.rt as u8 }
             }

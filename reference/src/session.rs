@@ -94,7 +94,9 @@ pub fn words(answer: Answer) -> String {
         Answer::Undefined => "undef".to_string(),
         Answer::Other => "other".to_string(),
         Answer::Error => "error".to_string(),
-        Answer::Trap { target, syndrome } => format!("trap {target} {syndrome:08X}"),
+        Answer::Trap { target, syndrome, cause } => {
+            format!("trap {target} {syndrome:08X} {}", cause.number())
+        }
         Answer::Moved { value, rt } => format!("value {value:016X} {rt}"),
         Answer::Value(value) => format!("value {value:016X}"),
         Answer::Refused(number) => format!("refused {number}"),

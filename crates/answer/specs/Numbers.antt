@@ -1,5 +1,7 @@
--- The one table of refusal numbers, and the numbers of the levels.
+-- The one table of refusal numbers, the one of the causes of traps, and the numbers of the levels.
 use Prim.Native.Nat.{ℕ}
+use Rattle.answer.specs.declared.Cause.{Cause}
+use Rattle.answer.specs.declared.Cause.the-variants.{Pmuserenr, FineGrained, Mdcr2Tpm, Hpmn, Mdcr3Tpm, EnPm2, FgtEn2}
 use Rattle.answer.specs.declared.Level.{Level}
 use Rattle.answer.specs.declared.Level.the-variants.{El1, El2, El3}
 use Rattle.answer.specs.declared.Refusal.{Refusal}
@@ -56,3 +58,20 @@ abbrev pub levelNumber : Level → ℕ
 levelNumber El1 = 1
 levelNumber El2 = 2
 levelNumber El3 = 3
+
+-- MODEL D0: a cause's number. Below, each with the clause of its number
+abbrev pub causeNumber : Cause → ℕ
+-- MODEL D1: PMUSERENR_EL0
+causeNumber Pmuserenr = 1
+-- MODEL D2: a fine-grained bit
+causeNumber FineGrained = 2
+-- MODEL D3: MDCR_EL2.TPM
+causeNumber Mdcr2Tpm = 3
+-- MODEL D4: MDCR_EL2.HPMN
+causeNumber Hpmn = 4
+-- MODEL D5: MDCR_EL3.TPM
+causeNumber Mdcr3Tpm = 5
+-- MODEL D6: MDCR_EL3.EnPM2
+causeNumber EnPm2 = 6
+-- MODEL D7: SCR_EL3.FGTEn2
+causeNumber FgtEn2 = 7

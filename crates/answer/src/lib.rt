@@ -1,6 +1,7 @@
-// What a command can answer: the refusals, the levels that a trap goes to, and the answers of a session's lines.
+// What a command can answer: the refusals, the levels that a trap goes to and the controls behind it, and the answers of a
+// session's lines.
 ghost use mathlib.Core.Path.{_≡_};
-ghost use Rattle.answer.specs.Numbers.{refusalNumber, levelNumber};
+ghost use Rattle.answer.specs.Numbers.{refusalNumber, levelNumber, causeNumber};
 
 // Why an input or a record is refused (MODEL R). specs/Numbers.antt has the number of each.
 pub enum Refusal {
@@ -27,9 +28,22 @@ pub enum Level {
     El3,
 }
 
-// Where an access is trapped to, and the 32 bits of its syndrome.
+// The control behind a trap (MODEL D): PMUSERENR_EL0, the fine-grained bit of the register and the direction, MDCR_EL2.TPM,
+// MDCR_EL2.HPMN, MDCR_EL3.TPM, MDCR_EL3.EnPM2 or SCR_EL3.FGTEn2. specs/Numbers.antt has the number of each.
+pub enum Cause {
+    Pmuserenr,
+    FineGrained,
+    Mdcr2Tpm,
+    Hpmn,
+    Mdcr3Tpm,
+    EnPm2,
+    FgtEn2,
+}
+
+// Where an access is trapped to, by which control, and the 32 bits of its syndrome.
 pub struct Trap {
     pub target: Level,
+    pub cause: Cause,
     pub syndrome: u32,
 }
 
@@ -77,5 +91,20 @@ pub fn level_number(l: Level) -> u8
         Level::El1 => 1,
         Level::El2 => 2,
         Level::El3 => 3,
+    }
+}
+
+// MODEL D0: the number of a cause.
+pub fn cause_number(c: Cause) -> u8
+    ensures { λ n. ⌜ n ≡ causeNumber c ⌝ }
+{
+    match c {
+        Cause::Pmuserenr => 1,
+        Cause::FineGrained => 2,
+        Cause::Mdcr2Tpm => 3,
+        Cause::Hpmn => 4,
+        Cause::Mdcr3Tpm => 5,
+        Cause::EnPm2 => 6,
+        Cause::FgtEn2 => 7,
     }
 }

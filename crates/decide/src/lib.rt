@@ -4,7 +4,8 @@ pub mod enabled; // enabled.rt: which event counters are enabled
 pub mod permitted; // permitted.rt: what a permitted access is to do
 
 ghost use mathlib.Core.Path.{_≡_};
-ghost use Rattle.rules.specs.Step.{undefinedAtOnce, stopOf, unlessStopped, decideRegister, decide};
+ghost use Rattle.rules.specs.Traps.{stopOf};
+ghost use Rattle.rules.specs.Step.{undefinedAtOnce, unlessStopped, decideRegister, decide};
 use answer::Answer;
 use answer::Trap;
 use rules::Decision;
@@ -46,8 +47,9 @@ fn unless_stopped(syndrome: u32, stop: Stop, d: Decision) -> Decision
     match stop {
         Stop::Pass => d,
         Stop::Undef => Decision::Says(Answer::Undef),
-        Stop::Trap(l) => Decision::Says(Answer::Trap(Trap {
-            target: l,
+        Stop::Trap(target, cause) => Decision::Says(Answer::Trap(Trap {
+            target: target,
+            cause: cause,
             syndrome: syndrome,
         })),
     }

@@ -1,6 +1,8 @@
-// The order of traps of PMICNTR (MODEL I): each rule's test, and the first that applies. `rule3` is I3, and so on.
+// The order of traps of PMICNTR (MODEL I): each rule's test, and the first that applies, with its cause. `rule3` is I3, and so on.
 ghost use mathlib.Core.Path.{_≡_};
-ghost use Rattle.rules.specs.Traps.{icntrOrder, pmicntrStop};
+ghost use Rattle.rules.specs.declared.Register.the-variants.{Pmicntr};
+ghost use Rattle.rules.specs.Traps.{icntrOrder, stopOf};
+use answer::Cause;
 use answer::Level;
 use rules::Stop;
 use state::View;
@@ -29,26 +31,26 @@ fn icntr_order(v: View, allowed: bool) -> Stop
         return Stop::Undef;
     }
     if rule2 {
-        return Stop::Trap(Level::El2);
+        return Stop::Trap(Level::El2, Cause::FgtEn2);
     }
     if rule3 {
-        return Stop::Trap(Level::El2);
+        return Stop::Trap(Level::El2, Cause::FineGrained);
     }
     if rule4 {
-        return Stop::Trap(Level::El2);
+        return Stop::Trap(Level::El2, Cause::Mdcr2Tpm);
     }
     if rule5 {
-        return traps::stop_at_el3(v);
+        return traps::stop_at_el3(v, Cause::EnPm2);
     }
     if rule6 {
-        return traps::stop_at_el3(v);
+        return traps::stop_at_el3(v, Cause::Mdcr3Tpm);
     }
     Stop::Pass
 }
 
 // The order of traps for PMICNTR.
 pub fn pmicntr_stop(v: View, read: bool) -> Stop
-    ensures { λ r. ⌜ r ≡ pmicntrStop v read ⌝ }
+    ensures { λ r. ⌜ r ≡ stopOf v Pmicntr read ⌝ }
 {
     let s = v.settings;
     let allowed = bits::select(read, s.hdfgrtr.npmicntr, s.hdfgwtr.npmicntr);

@@ -2,7 +2,7 @@
 use Prim.Native.Nat.{ℕ}
 use mathlib.Core.List.{List, _++_}
 use Rattle.answer.specs.declared.Answer.{Answer}
-use Rattle.answer.specs.Numbers.{refusalNumber, levelNumber}
+use Rattle.answer.specs.Numbers.{refusalNumber, levelNumber, causeNumber}
 use Rattle.text.specs.Text.{bytes, decimal, hex}
 
 -- MODEL L1: the text of an answer
@@ -12,7 +12,9 @@ textOf Answer.End = bytes "end"
 textOf Answer.Undef = bytes "undef"
 textOf Answer.Other = bytes "other"
 textOf Answer.Error = bytes "error"
-textOf (Answer.Trap t) = bytes "trap " ++ decimal (levelNumber (t .target)) ++ bytes " " ++ hex 8 (t .syndrome)
+textOf (Answer.Trap t) =
+    bytes "trap " ++ decimal (levelNumber (t .target)) ++ bytes " " ++ hex 8 (t .syndrome) ++ bytes " "
+    ++ decimal (causeNumber (t .cause))
 textOf (Answer.Value x) = bytes "value " ++ hex 16 x
 textOf (Answer.Mrs x rt) = bytes "value " ++ hex 16 x ++ bytes " " ++ decimal rt
 textOf (Answer.Refused r) = bytes "refused " ++ decimal (refusalNumber r)

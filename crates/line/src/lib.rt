@@ -14,10 +14,13 @@ fn trap(out: &mut [u8], at: usize, t: Trap) -> usize
     ensures { λ end. ⌜ Written (now (out .entry)) at (textOf (Answer.Trap t)) (now (out .exit)) end × (end ≤ at + 26) ⌝ }
 {
     let target = t.target;
+    let cause = t.cause;
     let a = text::bytes(out, at, b"trap ");
     let b = text::decimal(out, a, answer::level_number(target) as u64);
     let c = text::bytes(out, b, b" ");
-    text::hex(out, c, 8, t.syndrome as u64)
+    let d = text::hex(out, c, 8, t.syndrome as u64);
+    let e = text::bytes(out, d, b" ");
+    text::decimal(out, e, answer::cause_number(cause) as u64)
 }
 
 fn value(out: &mut [u8], at: usize, x: u64) -> usize

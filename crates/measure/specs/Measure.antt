@@ -3,6 +3,7 @@
 use Prim.Native.Nat.{ℕ, _+_, _/_, _%_, _^_}
 use mathlib.Core.List.{List, [], _∷_, map}
 use Rattle.answer.specs.declared.Answer.{Answer}
+use Rattle.answer.specs.Numbers.{causeNumber}
 use Rattle.machine.specs.declared.Machine.{Machine}
 use Rattle.machine.specs.Machine.{fresh}
 use Rattle.fields.specs.Set.{setAll}
@@ -27,7 +28,7 @@ worth Answer.End = 0
 worth Answer.Undef = 0
 worth Answer.Other = 0
 worth Answer.Error = 0
-worth (Answer.Trap t) = t .syndrome
+worth (Answer.Trap t) = t .syndrome + causeNumber (t .cause)
 worth (Answer.Value v) = v
 worth (Answer.Mrs v t) = v
 worth (Answer.Refused n) = 0

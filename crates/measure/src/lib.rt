@@ -31,7 +31,10 @@ pub fn worth(a: Answer) -> u64
         Answer::Undef => 0,
         Answer::Other => 0,
         Answer::Error => 0,
-        Answer::Trap(t) => t.syndrome as u64,
+        Answer::Trap(t) => {
+            let cause = t.cause;
+            (t.syndrome as u64) + (answer::cause_number(cause) as u64)
+        }
         Answer::Value(v) => v,
         Answer::Mrs { value, rt: _ } => value,
         Answer::Refused(_) => 0,

@@ -8,7 +8,8 @@ use Rattle.rules.specs.declared.Decision.the-variants.{Says}
 use Rattle.rules.specs.declared.Instruction.{Instruction}
 use Rattle.rules.specs.declared.Register.{Register}
 use Rattle.rules.specs.declared.Stop.{Stop}
-use Rattle.rules.specs.Step.{unlessStopped, undefinedAtOnce, stopOf, permitted, decideRegister}
+use Rattle.rules.specs.Traps.{stopOf}
+use Rattle.rules.specs.Step.{unlessStopped, undefinedAtOnce, permitted, decideRegister}
 use Rattle.state.specs.declared.View.{View}
 
 module _ (v : View) (r : Register) (i : Instruction) (x : ℕ) where

@@ -13,7 +13,7 @@ use Rattle.rules.specs.declared.Place.the-variants.{Counter, Instruction
 use Rattle.rules.specs.declared.Register.{Register}
 use Rattle.rules.specs.declared.Register.the-variants.{Pmevcntr, Pmswinc, Pmicntr, Other}
 use Rattle.rules.specs.Word.{decode, written}
-use Rattle.rules.specs.Traps.{counterRules, pmevcntrStop}
+use Rattle.rules.specs.Traps.{inaccessible, counterRules, pmevcntrDisabled, pmevcntrBit, rulesOf, stopOf}
 use Rattle.rules.specs.Ranges.{counterEnabled}
 use Rattle.rules.specs.Permitted.{denied, readOnly, deniedF0, readOnlyIr, ignored, addMask, pmswincAccess}
 use Rattle.rules.specs.Step.{undefinedAtOnce, permitted, decideRegister, decide}
@@ -58,10 +58,11 @@ module _
     (v : View) (n : ℕ) (el2 : v .settings .execution .el2enabled ≡ true) (low : leb (v .level) 1 ≡ true)
     (above : leb (v .settings .mdcr2 .hpmn) n ≡ true) where
   trapped : (i : Instruction) (x m : ℕ) → m ≡ n → touches (Counter n) (decideRegister v (Pmevcntr m) i x) ≡ false
-  unfolding decideRegister pmevcntrStop counterRules
+  unfolding decideRegister stopOf rulesOf counterRules
   trapped i x m q =
       through-cond (Counter n) (undefinedAtOnce v (Pmevcntr m) (i .read)) _ _ refl
-      (stopped-by (Counter n) 4 (i .syndrome) v _ _ _ _ (rw (q, el2, low, above)))
+      (stopped-by (Counter n) 4 (i .syndrome) v (pmevcntrDisabled v (i .read)) (pmevcntrBit v (i .read)) (inaccessible v m) _
+      (rw (q, el2, low, above)))
 
   above-ignored : ignored v n ≡ true
   above-ignored = rw (low, el2, above, or-true)

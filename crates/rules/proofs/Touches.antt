@@ -4,8 +4,10 @@ use mathlib.Core.Bool.{Bool, true, false, cond, _||_}
 use mathlib.Core.Path.{_≡_, refl}
 use lib.Dec.{eqb}
 use Rattle.answer.specs.declared.Answer.{Answer}
+use Rattle.answer.specs.declared.Cause.the-variants.{Mdcr3Tpm}
 use Rattle.answer.specs.declared.Level.the-variants.{El3}
 use Rattle.bits.specs.Bits.{bit}
+use Rattle.machine.specs.First.{first}
 use Rattle.machine.proofs.First.{testAt, gives, some-held}
 use Rattle.state.specs.declared.Verdict.{Verdict}
 use Rattle.state.specs.declared.Verdict.the-variants.{Consistent, Refused}
@@ -19,9 +21,9 @@ use Rattle.rules.specs.declared.Place.the-variants.{Counter, Instruction
 use Rattle.rules.specs.declared.Register.{Register}
 use Rattle.rules.specs.declared.Stop.{Stop}
 use Rattle.rules.specs.Word.{decode}
-use Rattle.rules.specs.Traps.{haltedSdd, disabledTrap, stopAtEl3, counterRules, counterOrder}
+use Rattle.rules.specs.Traps.{haltedSdd, stopAtEl3, counterRules, stopOf}
 use Rattle.rules.specs.Permitted.{placeAccess}
-use Rattle.rules.specs.Step.{unlessStopped, undefinedAtOnce, stopOf, permitted, decideRegister, unlessRefused, decide}
+use Rattle.rules.specs.Step.{unlessStopped, undefinedAtOnce, permitted, decideRegister, unlessRefused, decide}
 
 -- two places are one
 abbrev pub samePlace : Place → Place → Bool
@@ -46,14 +48,14 @@ touches p (Add mask) = inMask mask p
 passes : Stop → Bool
 passes Stop.Pass = true
 passes Stop.Undef = false
-passes (Stop.Trap l) = false
+passes (Stop.Trap l c) = false
 
 -- no row of the order lets the access pass
 all-stop : (v : View) (disabled trapBit above : Bool) → gives passes (counterRules v disabled trapBit above) ≡ false
-unfolding counterRules disabledTrap stopAtEl3 passes
+unfolding counterRules stopAtEl3 passes
 all-stop v disabled trapBit above = go (haltedSdd v)
   where
-    go : (h : Bool) → passes (cond h Stop.Undef (Stop.Trap El3)) || false ≡ false
+    go : (h : Bool) → passes (cond h Stop.Undef (Stop.Trap El3 Mdcr3Tpm)) || false ≡ false
     go true = refl
     go false = refl
 
@@ -66,7 +68,7 @@ module _ (p : Place) where
   through-stop : (syndrome : ℕ) (s : Stop) (d : Decision) → touches p d ≡ false → touches p (unlessStopped syndrome s d) ≡ false
   through-stop syndrome Stop.Pass d n = n
   through-stop syndrome Stop.Undef d n = refl
-  through-stop syndrome (Stop.Trap l) d n = refl
+  through-stop syndrome (Stop.Trap l c) d n = refl
 
   through-refusal : (t : Verdict) (d : Decision) → touches p d ≡ false → touches p (unlessRefused t d) ≡ false
   through-refusal Consistent d n = n
@@ -106,14 +108,13 @@ module _ (p : Place) where
   unfolding passes
   stopped syndrome Stop.Pass d n = cc
   stopped syndrome Stop.Undef d n = refl
-  stopped syndrome (Stop.Trap l) d n = refl
+  stopped syndrome (Stop.Trap l c) d n = refl
 
   -- where row k of the order applies, nothing is touched: whichever row is first, the access is stopped
   pub stopped-by :
       (k syndrome : ℕ) (v : View) (disabled trapBit above : Bool) (d : Decision)
       → testAt k (counterRules v disabled trapBit above) ≡ true
-      → touches p (unlessStopped syndrome (counterOrder v disabled trapBit above) d) ≡ false
-  unfolding counterOrder
+      → touches p (unlessStopped syndrome (first (counterRules v disabled trapBit above) Stop.Pass) d) ≡ false
   stopped-by k syndrome v disabled trapBit above d t =
       stopped syndrome _ d
       (some-held passes Stop.Pass (counterRules v disabled trapBit above) k (all-stop v disabled trapBit above) t)

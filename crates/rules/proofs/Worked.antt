@@ -8,17 +8,7 @@ use Rattle.fields.specs.Set.{set, setAll}
 use Rattle.state.specs.State.{viewOf, tooLarge, refusals, verdictOf}
 use Rattle.store.specs.Store.{store, storeSettings, storeFeatures, storeMdcr2, storePmuacr}
 use Rattle.rules.specs.Word.{named, register, syndrome, decode, written}
-use Rattle.rules.specs.Traps.{
-  disabledTrap,
-  stopAtEl3,
-  counterRules,
-  counterOrder,
-  icntrRules,
-  icntrOrder,
-  pmevcntrStop,
-  pmswincStop,
-  pmicntrStop,
-}
+use Rattle.rules.specs.Traps.{disabledTarget, stopAtEl3, counterRules, icntrRules, rulesOf, stopOf}
 use Rattle.rules.specs.Permitted.{placeAccess, addMask}
 use Rattle.rules.specs.Overflow.{raised, lowered}
 use Rattle.rules.specs.Apply.{incremented, apply}
@@ -44,8 +34,8 @@ Hold l = map actual l ≡ map expected l
 hold : Hold worked × Hold misreadings × Hold further
 unfolding
     largest set viewOf tooLarge refusals verdictOf store storeSettings storeFeatures storeMdcr2 storePmuacr
-    named register syndrome decode written disabledTrap stopAtEl3 counterRules counterOrder icntrRules icntrOrder
-    pmevcntrStop pmswincStop pmicntrStop placeAccess addMask decideRegister decide incremented apply step fromBits
+    named register syndrome decode written disabledTarget stopAtEl3 counterRules icntrRules rulesOf stopOf
+    placeAccess addMask decideRegister decide incremented apply step fromBits
     shownOf raised lowered reach effectOf externalRead externalWrite tick
     perform performAll setAll usual start actual expected worked misreadings
     trapExamples icntrExamples permittedExamples enabledExamples externalExamples overflowExamples stateExamples further
@@ -67,7 +57,7 @@ further-hold = hold .2
 pub limits-hold : map limitsActual ovsLimits ≡ map limitsExpected ovsLimits
 unfolding
     largest set viewOf tooLarge refusals verdictOf store storeSettings storeFeatures storeMdcr2 storePmuacr
-    named register syndrome decode written counterRules counterOrder pmevcntrStop placeAccess decideRegister decide apply step
+    named register syndrome decode written counterRules rulesOf stopOf placeAccess decideRegister decide apply step
     perform setAll usual ovsLimits withLimits limitsActual limitsExpected
 limits-hold = refl
 

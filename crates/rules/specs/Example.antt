@@ -3,6 +3,7 @@ use Prim.Native.Nat.{ℕ}
 use mathlib.Core.Bool.{Bool, true, not, _&&_}
 use mathlib.Core.List.{List, [], _∷_, _++_, map}
 use Rattle.answer.specs.declared.Answer.{Answer}
+use Rattle.answer.specs.declared.Cause.{Cause}
 use Rattle.answer.specs.declared.Level.{Level}
 use Rattle.machine.specs.declared.Machine.{Machine}
 use Rattle.machine.specs.declared.Outcome.{Outcome}
@@ -105,9 +106,9 @@ answers g l d r = shows g l (d ∷ []) (r ∷ []) []
 abbrev pub changes : List (ℕ × ℕ) → ℕ → Action → List (ℕ × ℕ) → Example
 changes g l d s = shows g l (d ∷ []) (Answer.Ok ∷ []) s
 
--- MODEL T11: a trap to this level with this syndrome
-abbrev pub trap : Level → ℕ → Answer
-trap l s = Answer.Trap (record { target = l; syndrome = s })
+-- MODEL T11: a trap to this level with this syndrome, by this control
+abbrev pub trap : Level → ℕ → Cause → Answer
+trap l s c = Answer.Trap (record { target = l; cause = c; syndrome = s })
 
 -- MODEL G2: X2 gets this value
 abbrev pub gives : ℕ → Answer

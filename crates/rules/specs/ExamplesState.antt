@@ -3,6 +3,7 @@ use Prim.Native.Nat.{ℕ}
 use mathlib.Core.Bool.{false}
 use mathlib.Core.List.{List, [], _∷_}
 use Rattle.answer.specs.declared.Answer.{Answer}
+use Rattle.answer.specs.declared.Cause.the-variants.{Hpmn}
 use Rattle.answer.specs.declared.Level.the-variants.{El2}
 use Rattle.answer.specs.declared.Refusal.the-variants.{FieldTooLarge, LevelUnavailable, El2Unimplemented, HpmnAboveN, HpmnZero}
 use Rattle.answer.specs.declared.Refusal.the-variants.{CounterTooWide, TgeAtEl1, FeatureMissing, ValueTooLarge}
@@ -28,7 +29,7 @@ stateExamples =
     ∷ answers ((0x27, 7) ∷ (0x10, 0) ∷ (0x09, 0) ∷ (0x63, 9) ∷ []) 1 mrs3 (gives 9)
     ∷ answers ((0x27, 0) ∷ []) 1 (write 0xC00 1) (Answer.Refused HpmnZero)
     ∷ answers ((0x27, 0) ∷ (0x10, 0) ∷ (0x09, 0) ∷ (0x63, 9) ∷ []) 1 mrs3 (gives 9)
-    ∷ answers ((0x27, 0) ∷ (0x06, 1) ∷ []) 1 mrs3 (trap El2 0x6236F851)
+    ∷ answers ((0x27, 0) ∷ (0x06, 1) ∷ []) 1 mrs3 (trap El2 0x6236F851 Hpmn)
     -- MODEL R15: a counter from N on; not with p5, and not for the instruction counter
     ∷ answers (countersOn ((0x01, 0) ∷ (0x02, 0) ∷ (0x7E, 0x100000000) ∷ [])) 1 (swinc 1) (Answer.Refused CounterTooWide)
     ∷ answers ((0x7E, 0x100000000) ∷ (0x63, 9) ∷ []) 1 mrs3 (gives 9)

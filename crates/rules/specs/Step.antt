@@ -19,7 +19,7 @@ use Rattle.rules.specs.declared.Register.{Register}
 use Rattle.rules.specs.declared.Register.the-variants.{Pmevcntr, Pmswinc, Pmicntr, Other}
 use Rattle.rules.specs.declared.Stop.{Stop}
 use Rattle.rules.specs.Word.{decode}
-use Rattle.rules.specs.Traps.{pmevcntrStop, pmswincStop, pmicntrStop}
+use Rattle.rules.specs.Traps.{stopOf}
 use Rattle.rules.specs.Permitted.{pmevcntrAccess, pmswincAccess, pmicntrAccess}
 use Rattle.rules.specs.Apply.{apply}
 
@@ -30,13 +30,6 @@ undefinedAtOnce v Pmswinc read = not (v .settings .features .pmuv3) || read
 undefinedAtOnce v Pmicntr read = not (v .settings .features .icntr)
 undefinedAtOnce v Other read = false
 
--- MODEL T1 to T6 and I1 to I6: the order of traps, for the register and the direction
-abbrev pub stopOf : View → Register → Bool → Stop
-stopOf v (Pmevcntr m) read = pmevcntrStop v read m
-stopOf v Pmswinc read = pmswincStop v
-stopOf v Pmicntr read = pmicntrStop v read
-stopOf v Other read = Stop.Pass
-
 -- MODEL G2, G8 and W7: a permitted access; a word of no register of the model's answers `other`
 abbrev pub permitted : View → Register → Instruction → ℕ → Decision
 permitted v (Pmevcntr m) i x = pmevcntrAccess v m i x
@@ -44,11 +37,11 @@ permitted v Pmswinc i x = pmswincAccess v i x
 permitted v Pmicntr i x = pmicntrAccess v i x
 permitted v Other i x = Says Answer.Other
 
--- MODEL T11: an access that the order of traps passes is permitted, and a trap answers its target and the syndrome
+-- MODEL T11: an access that the order of traps passes is permitted, and a trap answers its target, its cause and the syndrome
 abbrev pub unlessStopped : ℕ → Stop → Decision → Decision
 unlessStopped syndrome Stop.Pass d = d
 unlessStopped syndrome Stop.Undef d = Says Answer.Undef
-unlessStopped syndrome (Stop.Trap l) d = Says (Answer.Trap (record { target = l; syndrome = syndrome }))
+unlessStopped syndrome (Stop.Trap l c) d = Says (Answer.Trap (record { target = l; cause = c; syndrome = syndrome }))
 
 -- MODEL A2: the access to a register of a consistent record: undefined at once, or stopped by the order of traps, or permitted
 unfoldable pub decideRegister : View → Register → Instruction → ℕ → Decision

@@ -1,12 +1,17 @@
--- The orders of traps: who is trapped, and where to. Every test is on a view, which holds nothing of the counters but the test
--- of refusal 15.
+-- The orders of traps: who is trapped, where to, and by which control. Every test is on a view, which holds nothing of the
+-- counters but the test of refusal 15.
 use Prim.Native.Nat.{ℕ}
 use mathlib.Core.Bool.{Bool, false, cond, not, _&&_, _||_}
 use mathlib.Core.List.{List, [], _∷_}
 use lib.Dec.{leb, eqb}
+use Rattle.answer.specs.declared.Cause.{Cause}
+use Rattle.answer.specs.declared.Cause.the-variants.{Pmuserenr, FineGrained, Mdcr2Tpm, Hpmn, Mdcr3Tpm, EnPm2, FgtEn2}
+use Rattle.answer.specs.declared.Level.{Level}
 use Rattle.answer.specs.declared.Level.the-variants.{El1, El2, El3}
 use Rattle.machine.specs.First.{first}
 use Rattle.state.specs.declared.View.{View}
+use Rattle.rules.specs.declared.Register.{Register}
+use Rattle.rules.specs.declared.Register.the-variants.{Pmevcntr, Pmswinc, Pmicntr, Other}
 use Rattle.rules.specs.declared.Stop.{Stop}
 
 -- MODEL T1 to T6 and I1 to I6: the level is one of 0 to l
@@ -67,41 +72,28 @@ abbrev pub rule6 : View → Bool
 rule6 v = haveEl3 v && upTo 2 v && v .settings .mdcr3 .tpm
 
 -- MODEL T2: its target
-unfoldable pub disabledTrap : View → Stop
-disabledTrap v = Stop.Trap (cond (el2Enabled v && v .settings .hcr .tge) El2 El1)
+unfoldable pub disabledTarget : View → Level
+disabledTarget v = cond (el2Enabled v && v .settings .hcr .tge) El2 El1
 
--- MODEL T10: a stop at EL3
-unfoldable pub stopAtEl3 : View → Stop
-stopAtEl3 v = cond (haltedSdd v) Stop.Undef (Stop.Trap El3)
+-- MODEL T10: a stop at EL3 by this control
+unfoldable pub stopAtEl3 : View → Cause → Stop
+stopAtEl3 v cause = cond (haltedSdd v) Stop.Undef (Stop.Trap El3 cause)
 
--- MODEL T1 to T6: each rule's test and its stop, in order, from whether PMUSERENR has disabled the access at EL0, the
--- fine-grained bit of the register and direction, and whether the counter is inaccessible, which is T5's test
+-- MODEL T1 to T6 and D0: each rule's test and its stop, with the cause, in order, from whether PMUSERENR has disabled the access
+-- at EL0, the fine-grained bit of the register and direction, and whether the counter is inaccessible, which is T5's test
 unfoldable pub counterRules : View → Bool → Bool → Bool → List (Bool × Stop)
 counterRules v disabled trapBit rule5 =
     (rule1 v, Stop.Undef)
-    ∷ (rule2 v disabled, disabledTrap v)
-    ∷ (rule3 v trapBit, Stop.Trap El2)
-    ∷ (rule4 v, Stop.Trap El2)
-    ∷ (rule5, Stop.Trap El2)
-    ∷ (rule6 v, stopAtEl3 v)
+    ∷ (rule2 v disabled, Stop.Trap (disabledTarget v) Pmuserenr)
+    ∷ (rule3 v trapBit, Stop.Trap El2 FineGrained)
+    ∷ (rule4 v, Stop.Trap El2 Mdcr2Tpm)
+    ∷ (rule5, Stop.Trap El2 Hpmn)
+    ∷ (rule6 v, stopAtEl3 v Mdcr3Tpm)
     ∷ []
 
 -- MODEL T1 to T6: the first that applies
 unfoldable pub counterOrder : View → Bool → Bool → Bool → Stop
 counterOrder v disabled trapBit rule5 = first (counterRules v disabled trapBit rule5) Stop.Pass
-
--- MODEL T7 and T8: the order for PMEVCNTR<m>, with what enables it at EL0 and its fine-grained bits
-unfoldable pub pmevcntrStop : View → Bool → ℕ → Stop
-pmevcntrStop v read m =
-    counterOrder v
-    (cond read (not (v .settings .pmuserenr .en) && not (v .settings .pmuserenr .er)) (not (v .settings .pmuserenr .en)))
-    (cond read (v .settings .hdfgrtr .pmevcntrn) (v .settings .hdfgwtr .pmevcntrn))
-    (inaccessible v m)
-
--- MODEL T7 and T8: the order for PMSWINC, with what enables it at EL0 and its fine-grained bit. T5 is not for it
-unfoldable pub pmswincStop : View → Stop
-pmswincStop v =
-    counterOrder v (not (v .settings .pmuserenr .en) && not (v .settings .pmuserenr .sw)) (v .settings .hdfgwtr .pmswinc) false
 
 -- PMICNTR's fourth rule is `rule4` and its sixth `rule6`.
 
@@ -132,22 +124,47 @@ icntrRule3 v nPMICNTR = el2Enabled v && upTo 1 v && notHostEl0 v && v .settings 
 abbrev pub icntrRule5 : View → Bool
 icntrRule5 v = haveEl3 v && upTo 2 v && not (v .settings .mdcr3 .enpm2)
 
--- MODEL I1 to I6: each rule's test and its stop, in order, from the fine-grained bit of the direction. PMUSERENR is not looked
--- at (MODEL I8)
+-- MODEL I1 to I6 and D0: each rule's test and its stop, with the cause, in order, from the fine-grained bit of the direction.
+-- PMUSERENR is not looked at (MODEL I8)
 unfoldable pub icntrRules : View → Bool → List (Bool × Stop)
 icntrRules v nPMICNTR =
     (icntrRule1 v, Stop.Undef)
-    ∷ (icntrRule2 v, Stop.Trap El2)
-    ∷ (icntrRule3 v nPMICNTR, Stop.Trap El2)
-    ∷ (rule4 v, Stop.Trap El2)
-    ∷ (icntrRule5 v, stopAtEl3 v)
-    ∷ (rule6 v, stopAtEl3 v)
+    ∷ (icntrRule2 v, Stop.Trap El2 FgtEn2)
+    ∷ (icntrRule3 v nPMICNTR, Stop.Trap El2 FineGrained)
+    ∷ (rule4 v, Stop.Trap El2 Mdcr2Tpm)
+    ∷ (icntrRule5 v, stopAtEl3 v EnPm2)
+    ∷ (rule6 v, stopAtEl3 v Mdcr3Tpm)
     ∷ []
 
 -- MODEL I1 to I6: the first that applies
 unfoldable pub icntrOrder : View → Bool → Stop
 icntrOrder v nPMICNTR = first (icntrRules v nPMICNTR) Stop.Pass
 
--- MODEL I7: the order for PMICNTR, with its fine-grained bits, those of HDFGRTR2_EL2 and HDFGWTR2_EL2
-unfoldable pub pmicntrStop : View → Bool → Stop
-pmicntrStop v read = icntrOrder v (cond read (v .settings .hdfgrtr .npmicntr) (v .settings .hdfgwtr .npmicntr))
+-- MODEL T7: PMUSERENR does not enable MRS, or MSR, of an event counter
+abbrev pub pmevcntrDisabled : View → Bool → Bool
+pmevcntrDisabled v read =
+    cond read (not (v .settings .pmuserenr .en) && not (v .settings .pmuserenr .er)) (not (v .settings .pmuserenr .en))
+
+-- MODEL T7: nor MSR of PMSWINC
+abbrev pub pmswincDisabled : View → Bool
+pmswincDisabled v = not (v .settings .pmuserenr .en) && not (v .settings .pmuserenr .sw)
+
+-- MODEL T8: the fine-grained bit of an event counter and a direction
+abbrev pub pmevcntrBit : View → Bool → Bool
+pmevcntrBit v read = cond read (v .settings .hdfgrtr .pmevcntrn) (v .settings .hdfgwtr .pmevcntrn)
+
+-- MODEL I7: that of PMICNTR, in HDFGRTR2_EL2 and HDFGWTR2_EL2
+abbrev pub pmicntrBit : View → Bool → Bool
+pmicntrBit v read = cond read (v .settings .hdfgrtr .npmicntr) (v .settings .hdfgwtr .npmicntr)
+
+-- MODEL T1 to T8 and I1 to I7: the order of a register and a direction. T5 is not for PMSWINC, and a word of no register of the
+-- model's has no rules
+unfoldable pub rulesOf : View → Register → Bool → List (Bool × Stop)
+rulesOf v (Pmevcntr m) read = counterRules v (pmevcntrDisabled v read) (pmevcntrBit v read) (inaccessible v m)
+rulesOf v Pmswinc read = counterRules v (pmswincDisabled v) (v .settings .hdfgwtr .pmswinc) false
+rulesOf v Pmicntr read = icntrRules v (pmicntrBit v read)
+rulesOf v Other read = []
+
+-- MODEL T1 to T6 and I1 to I6: the first that applies; where none does, the access passes
+unfoldable pub stopOf : View → Register → Bool → Stop
+stopOf v r read = first (rulesOf v r read) Stop.Pass

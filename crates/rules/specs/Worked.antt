@@ -2,6 +2,7 @@
 -- those for the wrong readings MODEL Q2 to Q4; that for Q1 is P9.
 use mathlib.Core.List.{List, [], _∷_}
 use Rattle.answer.specs.declared.Answer.{Answer}
+use Rattle.answer.specs.declared.Cause.the-variants.{Pmuserenr, Hpmn, Mdcr3Tpm}
 use Rattle.answer.specs.declared.Level.the-variants.{El1, El2, El3}
 use Rattle.answer.specs.declared.Refusal.the-variants.{HpmnAboveN}
 use Rattle.rules.specs.Example.{Example, countersOn, shows, answers, changes, trap, gives}
@@ -13,9 +14,9 @@ use Rattle.rules.specs.Example.Action.{access, read, write}
 unfoldable pub worked : List Example
 worked =
     -- MODEL P1
-    answers [] 1 (access 0xD53BE882 0) (trap El2 0x6238F851)
+    answers [] 1 (access 0xD53BE882 0) (trap El2 0x6238F851 Hpmn)
     -- MODEL P2
-    ∷ answers [] 1 (access 0xD53BE8A2 0) (trap El2 0x623AF851)
+    ∷ answers [] 1 (access 0xD53BE8A2 0) (trap El2 0x623AF851 Hpmn)
     ∷ answers ((0x65, 41) ∷ []) 2 (access 0xD53BE8A2 0) (gives 41)
     -- MODEL P3
     ∷ answers [] 2 (access 0xD53BE8C2 0) Answer.Undef
@@ -30,8 +31,8 @@ worked =
     ∷ changes (countersOn ((0x60, 0xFFFFFFFF) ∷ [])) 1 (swinc 1) ((0x60, 0x100000000) ∷ (0x37, 1) ∷ [])
     ∷ changes (countersOn ((0x01, 0) ∷ (0x02, 0) ∷ (0x60, 0xFFFFFFFF) ∷ [])) 1 (swinc 1) ((0x60, 0) ∷ (0x37, 1) ∷ [])
     -- MODEL P8
-    ∷ answers ((0x20, 0) ∷ []) 0 (access 0xD51B9C81 0) (trap El1 0x6238E438)
-    ∷ answers ((0x20, 0) ∷ (0x25, 1) ∷ []) 0 (access 0xD51B9C81 0) (trap El2 0x6238E438)
+    ∷ answers ((0x20, 0) ∷ []) 0 (access 0xD51B9C81 0) (trap El1 0x6238E438 Pmuserenr)
+    ∷ answers ((0x20, 0) ∷ (0x25, 1) ∷ []) 0 (access 0xD51B9C81 0) (trap El2 0x6238E438 Pmuserenr)
     -- MODEL P9
     ∷ changes (countersOn ((0x23, 1) ∷ (0x21, 1) ∷ (0x20, 0) ∷ [])) 0 (swinc 8) ((0x63, 1) ∷ [])
     -- MODEL P10
@@ -50,7 +51,7 @@ worked =
 unfoldable pub misreadings : List Example
 misreadings =
     -- MODEL Q2: from HPMN on a counter traps to EL2, and below it to EL3
-    shows ((0x0A, 1) ∷ (0x28, 1) ∷ []) 1 (mrs4 ∷ mrs3 ∷ []) (trap El2 0x6238F851 ∷ trap El3 0x6236F851 ∷ []) []
+    shows ((0x0A, 1) ∷ (0x28, 1) ∷ []) 1 (mrs4 ∷ mrs3 ∷ []) (trap El2 0x6238F851 Hpmn ∷ trap El3 0x6236F851 Mdcr3Tpm ∷ []) []
     -- MODEL Q2: a bit of PMSWINC at HPMN or above is ignored and does not trap
     ∷ answers (countersOn []) 0 (swinc 0x10) Answer.Ok
     -- MODEL Q3: HPMN does not count while EL2 is not enabled, for an access or for a bit of PMSWINC

@@ -3,6 +3,7 @@
 pub mod external; // external.rt: what comes from outside, and how far it gets
 
 use answer::Answer;
+use answer::Cause;
 use answer::Level;
 
 // The register that an instruction word names: PMEVCNTR<m>_EL0, PMSWINC_EL0, PMICNTR_EL0 or another.
@@ -22,11 +23,11 @@ pub struct Instruction {
     pub syndrome: u32,
 }
 
-// What the order of traps says of an access: it is permitted, undefined, or trapped to a level.
+// What the order of traps says of an access: it is permitted, undefined, or trapped to a level by a control.
 pub enum Stop {
     Pass,
     Undef,
-    Trap(Level),
+    Trap(Level, Cause),
 }
 
 // What an access can read or write in the record: an event counter by its number, or the instruction counter.

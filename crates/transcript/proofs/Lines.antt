@@ -10,7 +10,7 @@ use lib.Dec.{eqb, ltb}
 use lib.ListN.{length}
 use Rattle.answer.specs.declared.Answer.{Answer}
 use Rattle.answer.specs.declared.Refusal.the-variants.{SessionTooLong}
-use Rattle.answer.specs.Numbers.{refusalNumber, levelNumber}
+use Rattle.answer.specs.Numbers.{refusalNumber, levelNumber, causeNumber}
 use Rattle.line.specs.Line.{textOf, lineOf}
 use Rattle.text.specs.Text.{bytes, decimalDigits, decimal, hex}
 use Rattle.transcript.specs.Session.{answersFrom, linesFrom, longest, answersOf, outputOf}
@@ -70,11 +70,17 @@ none-text Answer.Undef = refl
 none-text Answer.Other = refl
 none-text Answer.Error = refl
 none-text (Answer.Trap t) =
-    none-append (bytes "trap " ++ decimal (levelNumber (t .target)) ++ bytes " ") (hex 8 (t .syndrome))
-    (none-append (bytes "trap " ++ decimal (levelNumber (t .target))) (bytes " ")
+    let level = bytes "trap " ++ decimal (levelNumber (t .target)) in
+    let syndrome = level ++ bytes " " ++ hex 8 (t .syndrome) in
+    none-append (syndrome ++ bytes " ") (decimal (causeNumber (t .cause)))
+    (none-append syndrome (bytes " ")
+    (none-append (level ++ bytes " ") (hex 8 (t .syndrome))
+    (none-append level (bytes " ")
     (none-append (bytes "trap ") (decimal (levelNumber (t .target))) refl (none-decimal (levelNumber (t .target))))
     refl)
-    (none-hex 8 (t .syndrome))
+    (none-hex 8 (t .syndrome)))
+    refl)
+    (none-decimal (causeNumber (t .cause)))
 none-text (Answer.Value x) = none-append (bytes "value ") (hex 16 x) refl (none-hex 16 x)
 none-text (Answer.Mrs x t) =
     none-append (bytes "value " ++ hex 16 x ++ bytes " ") (decimal t)

@@ -52,14 +52,14 @@ module _ (r : Machine) where
   unfolding apply
   stopped-spares w Stop.Pass d p = p
   stopped-spares w Stop.Undef d p = refl
-  stopped-spares w (Stop.Trap l) d p = refl
+  stopped-spares w (Stop.Trap l c) d p = refl
 
   register-spares : (v : View) (g : Register) (i : Instruction) (x : ℕ) → Spares r (decideRegister v g i x)
   unfolding apply decideRegister placeAccess
   register-spares v (Pmevcntr m) i x = search (either (Spares r), stopped-spares)
   register-spares v Pmswinc i x = search (either (Spares r), stopped-spares)
   register-spares v Pmicntr i x = search (either (Spares r), stopped-spares)
-  register-spares v Other i x = refl
+  register-spares v Other i x = search (either (Spares r), stopped-spares)
 
   refused-spares : (v : Verdict) (d : Decision) → Passes v → Spares r d → Spares r (unlessRefused v d)
   unfolding Passes apply

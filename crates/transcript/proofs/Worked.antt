@@ -6,7 +6,7 @@ use Rattle.fields.specs.Set.{set, setLevel}
 use Rattle.state.specs.State.{viewOf, tooLarge, refusals, verdictOf}
 use Rattle.store.specs.Store.{store, storeSettings, storeFeatures, storeMdcr2, storePmuacr}
 use Rattle.rules.specs.Word.{named, register, syndrome, decode, written}
-use Rattle.rules.specs.Traps.{disabledTrap, stopAtEl3, counterRules, counterOrder, pmevcntrStop}
+use Rattle.rules.specs.Traps.{disabledTarget, stopAtEl3, counterRules, rulesOf, stopOf}
 use Rattle.rules.specs.Permitted.{placeAccess}
 use Rattle.rules.specs.Apply.{apply}
 use Rattle.rules.specs.Step.{decideRegister, decide, step}
@@ -19,7 +19,7 @@ use Rattle.transcript.specs.Example.{Example, examples}
 pub examples-hold : map (λ (e : Example). outputOf (e .input)) examples ≡ map (λ (e : Example). bytes (e .output)) examples
 unfolding
     largest set setLevel viewOf tooLarge refusals verdictOf store storeSettings storeFeatures storeMdcr2 storePmuacr
-    named register syndrome decode written disabledTrap stopAtEl3 counterRules counterOrder pmevcntrStop placeAccess
+    named register syndrome decode written disabledTarget stopAtEl3 counterRules rulesOf stopOf placeAccess
     decideRegister decide apply step decimal hex commandOf textOf lineOf
     execute answersFrom linesFrom answersOf outputOf examples
 examples-hold = refl

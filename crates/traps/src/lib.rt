@@ -1,28 +1,32 @@
-// The order of traps of PMEVCNTR and PMSWINC (MODEL T): each rule's test, and the first that applies. `rule3` is T3, and so on.
+// The order of traps of PMEVCNTR and PMSWINC (MODEL T): each rule's test, and the first that applies, with its cause. `rule3` is
+// T3, and so on.
+ghost use mathlib.Core.Bool.{false};
 ghost use mathlib.Core.Path.{_≡_};
-ghost use Rattle.rules.specs.Traps.{disabledTrap, stopAtEl3, counterOrder, pmevcntrStop, pmswincStop};
+ghost use Rattle.rules.specs.declared.Register.the-variants.{Pmevcntr, Pmswinc};
+ghost use Rattle.rules.specs.Traps.{disabledTarget, stopAtEl3, counterOrder, stopOf};
+use answer::Cause;
 use answer::Level;
 use rules::Stop;
 use state::View;
 
 // The target of MODEL T2.
-fn disabled_trap(v: View) -> Stop
-    ensures { λ r. ⌜ r ≡ disabledTrap v ⌝ }
+fn disabled_target(v: View) -> Level
+    ensures { λ l. ⌜ l ≡ disabledTarget v ⌝ }
 {
     if v.settings.execution.el2enabled & v.settings.hcr.tge {
-        return Stop::Trap(Level::El2);
+        return Level::El2;
     }
-    Stop::Trap(Level::El1)
+    Level::El1
 }
 
-// A stop at EL3, of PMICNTR too.
-pub fn stop_at_el3(v: View) -> Stop
-    ensures { λ r. ⌜ r ≡ stopAtEl3 v ⌝ }
+// A stop at EL3 by a control, of PMICNTR too.
+pub fn stop_at_el3(v: View, cause: Cause) -> Stop
+    ensures { λ r. ⌜ r ≡ stopAtEl3 v cause ⌝ }
 {
     if v.settings.execution.halted & v.settings.execution.sdd {
         return Stop::Undef;
     }
-    Stop::Trap(Level::El3)
+    Stop::Trap(Level::El3, cause)
 }
 
 // The order for PMEVCNTR and PMSWINC, from whether PMUSERENR shuts it out at EL0, the fine-grained bit, and T5's test,
@@ -50,26 +54,26 @@ fn counter_order(v: View, disabled: bool, trap_bit: bool, rule5: bool) -> Stop
         return Stop::Undef;
     }
     if rule2 {
-        return disabled_trap(v);
+        return Stop::Trap(disabled_target(v), Cause::Pmuserenr);
     }
     if rule3 {
-        return Stop::Trap(Level::El2);
+        return Stop::Trap(Level::El2, Cause::FineGrained);
     }
     if rule4 {
-        return Stop::Trap(Level::El2);
+        return Stop::Trap(Level::El2, Cause::Mdcr2Tpm);
     }
     if rule5 {
-        return Stop::Trap(Level::El2);
+        return Stop::Trap(Level::El2, Cause::Hpmn);
     }
     if rule6 {
-        return stop_at_el3(v);
+        return stop_at_el3(v, Cause::Mdcr3Tpm);
     }
     Stop::Pass
 }
 
 // The order of traps for PMEVCNTR<m>.
 pub fn pmevcntr_stop(v: View, read: bool, m: u64) -> Stop
-    ensures { λ r. ⌜ r ≡ pmevcntrStop v read m ⌝ }
+    ensures { λ r. ⌜ r ≡ stopOf v (Pmevcntr m) read ⌝ }
 {
     let s = v.settings;
     let disabled = bits::select(read, !s.pmuserenr.en & !s.pmuserenr.er, !s.pmuserenr.en);
@@ -78,9 +82,9 @@ pub fn pmevcntr_stop(v: View, read: bool, m: u64) -> Stop
     counter_order(v, disabled, trap_bit, inaccessible)
 }
 
-// The order of traps for PMSWINC.
+// The order of traps for PMSWINC, that of MSR. (MRS of it is undefined at once.)
 pub fn pmswinc_stop(v: View) -> Stop
-    ensures { λ r. ⌜ r ≡ pmswincStop v ⌝ }
+    ensures { λ r. ⌜ r ≡ stopOf v Pmswinc false ⌝ }
 {
     let s = v.settings;
     counter_order(

@@ -1,12 +1,12 @@
 //! What the directed sessions reach: every answer, every refusal that a session
-//! can reach, every target of a trap, every register in both directions, every
-//! overflow flag, every way to switch a counter off.
+//! can reach, every target and every cause of a trap, every register in both
+//! directions, every overflow flag, every way to switch a counter off.
 
 use super::fields::{ALL_PMOVS, LEVEL, PMOVS};
 use super::script::{PMCNTENSET, PMOVSCLR, PMOVSSET};
 use super::{all, Session};
 use crate::model::{Answer, Machine, Move, Register};
-use crate::session::{obey, parse, run, Command, Parsed, LIMIT};
+use crate::session::{obey, parse, run, words, Command, Parsed, LIMIT};
 use std::collections::BTreeSet;
 
 /// The answers of a session, without their positions.
@@ -124,6 +124,206 @@ fn every_register_and_direction_gets_each_answer() {
             assert_eq!(seen, wanted(name, read), "{name} read {read}");
         }
     }
+}
+
+/// The causes that stop accesses to a register in one direction, in their order.
+const CAUSES: [(&str, bool, &[u8]); 5] = [
+    ("PMEVCNTR", true, &[1, 2, 3, 4, 5]),
+    ("PMEVCNTR", false, &[1, 2, 3, 4, 5]),
+    ("PMSWINC", false, &[1, 2, 3, 5]),
+    ("PMICNTR", true, &[7, 2, 3, 6, 5]),
+    ("PMICNTR", false, &[7, 2, 3, 6, 5]),
+];
+
+/// The levels at which a cause is named, from the lowest to the highest.
+fn named_at(cause: u8) -> std::ops::RangeInclusive<u8> {
+    match cause {
+        1 => 0..=0,
+        2 | 3 | 4 | 7 => 0..=1,
+        _ => 0..=2,
+    }
+}
+
+/// The target and the cause that a trap's answer shows, and nothing for another
+/// answer. Behind the target there are 8 digits, behind them the cause alone.
+fn shown_trap(answer: &str) -> Option<(u8, u8)> {
+    let words: Vec<&str> = answer.split(' ').collect();
+    if words[0] != "trap" {
+        return None;
+    }
+    assert_eq!((words.len(), words[2].len()), (4, 8), "{answer}");
+    let number = |word: &str| word.parse::<u8>().expect("number");
+    assert_eq!(words[3], number(words[3]).to_string(), "{answer}");
+    Some((number(words[1]), number(words[3])))
+}
+
+/// An access to one of the registers: which one, whether it is a read, the level,
+/// and the answer that is shown.
+type Shown = (&'static str, bool, u8, String);
+
+/// The accesses to the registers that a session makes.
+fn accesses(session: &Session) -> Vec<Shown> {
+    let mut level = 0;
+    let mut list = Vec::new();
+    for (command, answer) in commands(session).into_iter().zip(answers(session)) {
+        match command {
+            Command::Level(new) if answer == "ok" => level = new,
+            _ => {
+                if let Some((name, read)) = target(command) {
+                    list.push((name, read, level, answer));
+                }
+            }
+        }
+    }
+    list
+}
+
+/// Each cause is shown for every register, direction, level and target where it
+/// can be: by the sessions on causes, and no session shows one elsewhere.
+#[test]
+fn every_cause_is_shown_where_it_can_be() {
+    let mut wanted = BTreeSet::new();
+    for (name, read, causes) in CAUSES {
+        for &cause in causes {
+            let targets: &[u8] = match cause {
+                1 => &[1, 2],
+                5 | 6 => &[3],
+                _ => &[2],
+            };
+            for level in named_at(cause) {
+                wanted.extend(targets.iter().map(|&to| (name, read, cause, level, to)));
+            }
+        }
+    }
+    let mut seen = [BTreeSet::new(), BTreeSet::new()];
+    for session in all().iter().filter(|session| session.bytes.len() <= LIMIT) {
+        for (name, read, level, answer) in accesses(session) {
+            if let Some((to, cause)) = shown_trap(&answer) {
+                let index = session.name.starts_with("cause-") as usize;
+                seen[index].insert((name, read, cause, level, to));
+            }
+        }
+    }
+    assert_eq!(seen[1], wanted);
+    assert!(seen[0].is_subset(&wanted), "{:?}", seen[0].difference(&wanted));
+}
+
+/// The sessions of a name's start with the accesses that they try, in order: those
+/// of the first one's register and direction at its level.
+fn tried(start: &str) -> Vec<Vec<Shown>> {
+    let list = all().into_iter().filter(|session| session.name.starts_with(start));
+    let shown = list.map(|session| accesses(&session));
+    let alike = |a: &Shown, b: &Shown| (a.0, a.1, a.2) == (b.0, b.1, b.2);
+    shown.map(|list| list.iter().filter(|one| alike(one, &list[0])).cloned().collect()).collect()
+}
+
+/// Each two causes that can meet: the earlier one is shown, when it is opened the
+/// later one, and then the access passes. PMUSERENR's traps with both targets.
+#[test]
+fn every_two_causes_meet() {
+    let mut wanted = BTreeSet::new();
+    for (name, read, causes) in CAUSES {
+        for level in 0..=2 {
+            let there = causes.iter().filter(|&&cause| named_at(cause).contains(&level));
+            let there: Vec<u8> = there.copied().collect();
+            for (index, &first) in there.iter().enumerate() {
+                for &second in &there[index + 1..] {
+                    wanted.extend([(name, read, level, first, second, false)]);
+                    if level == 0 && first == 1 {
+                        wanted.extend([(name, read, level, first, second, true)]);
+                    }
+                }
+            }
+        }
+    }
+    let mut seen = BTreeSet::new();
+    for list in tried("cause-pairs-") {
+        for three in list.chunks(3) {
+            let [first, second, third] = [0, 1, 2].map(|index| &three[index]);
+            let (name, read, level, _) = *first;
+            let traps = (shown_trap(&first.3), shown_trap(&second.3));
+            let ((to, first), (_, second)) = match traps {
+                (Some(first), Some(second)) => (first, second),
+                _ => panic!("{three:?}"),
+            };
+            assert_eq!(kind(&third.3), if read { "value" } else { "ok" }, "{three:?}");
+            seen.insert((name, read, level, first, second, first == 1 && to == 2));
+        }
+    }
+    assert_eq!(seen, wanted);
+}
+
+/// All controls at once: the causes come in their order, each of them when those
+/// before it are open. No cause is left out, and no control stops level 3.
+#[test]
+fn all_causes_come_in_order() {
+    let mut seen = 0;
+    for list in tried("cause-all-") {
+        let (name, read, level, _) = list[0];
+        let found = CAUSES.iter().find(|row| (row.0, row.1) == (name, read));
+        let causes = found.expect("causes").2;
+        let there = causes.iter().copied().filter(|&cause| named_at(cause).contains(&level));
+        let mut shown: Vec<u8> = list[..=causes.len()]
+            .iter()
+            .filter_map(|(_, _, _, answer)| shown_trap(answer))
+            .map(|(_, cause)| cause)
+            .collect();
+        shown.dedup();
+        assert_eq!(shown, there.collect::<Vec<u8>>(), "{name} read {read} level {level}");
+        let last = &list[causes.len()].3;
+        assert_eq!(kind(last), if read { "value" } else { "ok" });
+        seen += 1;
+    }
+    assert_eq!(seen, 20);
+}
+
+/// A stop at EL3 that is undefined shows that one word, at each level, whether a
+/// control that is asked for earlier would stop the access or not.
+#[test]
+fn undefined_stops_show_no_cause() {
+    let mut wanted = BTreeSet::new();
+    for (name, read, causes) in CAUSES {
+        for level in 0..=2 {
+            let there = causes.iter().filter(|&&cause| named_at(cause).contains(&level));
+            wanted.extend(there.map(|&cause| (name, read, level, cause)));
+            wanted.insert((name, read, level, 0));
+        }
+    }
+    let mut seen = BTreeSet::new();
+    for (name, read, level, answer) in tried("cause-undef-").concat() {
+        match shown_trap(&answer) {
+            Some((_, cause)) => seen.insert((name, read, level, cause)),
+            None => {
+                assert_eq!(answer, "undef");
+                seen.insert((name, read, level, 0))
+            }
+        };
+    }
+    assert_eq!(seen, wanted);
+}
+
+/// Every event counter is stopped by HPMN at both levels, in both directions.
+#[test]
+fn hpmn_is_the_cause_at_every_counter() {
+    let mut seen = BTreeSet::new();
+    for session in all().iter().filter(|session| session.name.starts_with("cause-hpmn-")) {
+        let mut machine = Machine::default();
+        for command in commands(session) {
+            let level = machine.el;
+            let answer = words(obey(&mut machine, command));
+            let word = match command {
+                Command::Access { word, .. } => word,
+                _ => continue,
+            };
+            let found = Move::decode(word).expect("move");
+            let trap = shown_trap(&answer);
+            if let (Some(Register::Pmevcntr(m)), Some(trap)) = (found.register(), trap) {
+                assert_eq!((trap, machine.hpmn), ((2, 4), m));
+                seen.insert((found.read, level, m));
+            }
+        }
+    }
+    assert_eq!(seen.len(), 2 * 2 * 31);
 }
 
 #[test]

@@ -195,7 +195,7 @@ module _ {M : Type 1} (𝓤 : URA M) (H : Heap 𝓤) (A : Atoms 𝓤) (W : Given
         split ! $ move ! (1 ∷ []) $ heard ! (OfStep w x h r (ws .0)) (λ e. fsplit ! $ move ! (2 ∷ []) $ split ! $
         move ! (1 ∷ []) $ shown ! N′.the-row r (v ∷ []) (λ is.
         -- [what the answer owns; the token; the last record; …; the lender's part; room for _7; …; _6; …; room for _5; …]
-        land ! (from ! (stop !)) (init ! 9 refl (answer-fits W r v is)) $
+        land ! (from ! (stop !)) (init ! 9 {τ = N″.mir} {b = l₅} {o = zero} {v = v} refl (answer-fits W r v is)) $
         rewrite ! 9 (λ (u : Val). ‵ (fat fullShare N″.mir l₅ zero u))
         (ap only (EL.tells N′.the-type N″.the-laws r (v ∷ []) is)) refl $
         -- the lifetime is ended, and the local is back, at that record

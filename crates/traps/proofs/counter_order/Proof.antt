@@ -1,6 +1,7 @@
 -- `traps::counter_order` meets its contract: a case for each rule, and one for the end of the order.
 use mathlib.Core.Bool.{Bool}
-use mathlib.Core.Path.{_≡_, refl}
+use mathlib.Core.Path.{_≡_, refl, ap}
+use Rattle.answer.specs.declared.Cause.the-variants.{Pmuserenr}
 use Rattle.machine.proofs.First.{Picks, none, _↓_, held, picked}
 use Rattle.state.specs.declared.View.{View}
 use Rattle.rules.specs.declared.Stop.{Stop}
@@ -22,7 +23,7 @@ returns-2 : tie.Need-returns-2
 unfolding counterRules
 returns-2 c =
     let at-if1 = c .before .before in
-    row _ _ _ _ (at-if1 .if1 .left ↓ held (c .before .if2 .taken) (c .disabled-trap .ensures))
+    row _ _ _ _ (at-if1 .if1 .left ↓ held (c .before .if2 .taken) (ap (λ l. Stop.Trap l Pmuserenr) (c .disabled-target .ensures)))
 
 returns-3 : tie.Need-returns-3
 unfolding counterRules

@@ -1,11 +1,11 @@
 -- `traps::pmevcntr_stop` meets its contract.
 use mathlib.Core.Path.{sym}
-use Rattle.rules.specs.Traps.{pmevcntrStop}
+use Rattle.rules.specs.Traps.{counterOrder, rulesOf, stopOf}
 use Rattle.traps.proofs.pmevcntr_stop.Statement.{statement}
 use Rattle.traps.proofs.pmevcntr_stop.Tie as tie
 
 returns : tie.Need-returns
-unfolding pmevcntrStop
+unfolding counterOrder stopOf rulesOf
 returns c =
     let at-select2 = c .before .before .before .before in
     let at-select = at-select2 .before in

@@ -1,0 +1,98 @@
+-- What putting HPMN above a counter changes: m + 1 is at most N, so that the record stays consistent, and the rest is as before.
+use Prim.Native.Nat.{ℕ, _+_, _<_, _≤_}
+use mathlib.Core.Bool.{Bool, true, false, not, cond, _&&_, _||_, and-false, true≢false}
+use mathlib.Core.List.{List, [], _∷_}
+use mathlib.Core.Path.{_≡_, refl, sym, _∙_, ap, subst}
+use native.Mathlib.Omega.{arith}
+use borrow.Author.Tests.{ltb-false, leb-false, le-ltb, lt-leb, ne-eqb}
+use lib.Dec.{leb, ltb, eqb}
+use Rattle.answer.specs.declared.Cause.the-variants.{Hpmn, Mdcr3Tpm}
+use Rattle.answer.specs.declared.Refusal.the-variants.{ValueTooLarge}
+use Rattle.fields.specs.Largest.{largest, exceeds, largestLevel}
+use Rattle.fields.specs.Set.{set, setAll}
+use Rattle.machine.proofs.Bools.{or-left, or-right}
+use Rattle.machine.specs.declared.Machine.{Machine}
+use Rattle.machine.specs.Outcome.{refused, done}
+use Rattle.rules.specs.declared.Register.the-variants.{Pmevcntr}
+use Rattle.rules.specs.Step.{undefinedAtOnce}
+use Rattle.rules.specs.Traps.{upTo, el2Enabled, stopAtEl3, counterRules, rulesOf}
+use Rattle.state.proofs.Consistent.{numbersLarge, passed}
+use Rattle.state.specs.declared.Verdict.the-variants.{Consistent}
+use Rattle.state.specs.declared.View.{View}
+use Rattle.state.specs.State.{viewOf, tooLarge, refusals, verdictOf}
+use Rattle.store.specs.Store.{store, storeSettings, storeFeatures, storeMdcr2, storePmuacr}
+use Rattle.causes.specs.Responsible.{opening}
+use Rattle.causes.proofs.Rows.{none, _⨾_, Opens, here, _⇊_}
+use Rattle.causes.proofs.Opened.{Opened, el3-spared}
+
+-- one test of several in place of another
+replaced :
+    (a b c x y z u : Bool) → a || b || x || y || z || u ≡ false → c ≡ false → a || c || x || y || z || u ≡ false
+replaced true b c x y z u n e = absurd (true≢false n)
+replaced false true c x y z u n e = absurd (true≢false n)
+replaced false false c x y z u n e = rw e n
+
+module _ (r : Machine) (m : ℕ) (read : Bool)
+    (consistent : verdictOf (viewOf r) ≡ Consistent) (defined : undefinedAtOnce (viewOf r) (Pmevcntr m) read ≡ false) where
+  abbrev v : View
+  v = viewOf r
+
+  abbrev n : ℕ
+  n = v .settings .features .n
+
+  -- the counter is there
+  below : m < n
+  unfolding viewOf
+  below = leb-false n m (or-right (not (v .settings .features .pmuv3)) (leb n m) defined)
+
+  -- and there are at most 31
+  n-fits : n ≤ 31
+  unfolding refusals tooLarge largest
+  n-fits =
+      ltb-false 31 n
+      (or-left (exceeds n 0x0C) (exceeds (v .settings .mdcr2 .hpmn) 0x27)
+      (or-left _ (exceeds (v .settings .pmuacr .p) 0x32)
+      (or-left _ (exceeds (v .settings .cnten) 0x34)
+      (or-left (numbersLarge v) (v .ovslarge)
+      (or-left (numbersLarge v || v .ovslarge) (ltb largestLevel (v .level)) (passed v consistent 0))))))
+
+  -- so the set command is not refused
+  abbrev u : Machine
+  u = store 0x27 (m + 1) r
+
+  fits : exceeds (m + 1) 0x27 ≡ false
+  unfolding largest
+  fits = le-ltb 31 (m + 1) (omega (arith, below, n-fits))
+
+  is-set : setAll (opening Hpmn (Pmevcntr m) read) r ≡ u
+  unfolding set setAll largest
+  is-set = ap (λ b. cond b (refused ValueTooLarge r) (done u) .machine) fits
+
+  -- and the record stays consistent: rows 0, 3 and 4 look at HPMN
+  still : verdictOf (viewOf u) ≡ Consistent
+  unfolding verdictOf refusals tooLarge viewOf store storeSettings storeFeatures storeMdcr2 storePmuacr
+  still =
+      let p = passed v consistent in
+      let large = replaced (exceeds n 0x0C) (exceeds (v .settings .mdcr2 .hpmn) 0x27) (exceeds (m + 1) 0x27) _ _ _ _ (p 0) fits in
+      let at-most-n : ltb n (m + 1) ≡ false = le-ltb n (m + 1) (omega (arith, below)) in
+      let not-0 : eqb (m + 1) 0 ≡ false = ne-eqb (m + 1) 0 (λ e. omega (arith, e)) in
+      rw (large, p 1, p 2, at-most-n, not-0, and-false (v .settings .features .el2), p 5, p 6, p 7)
+
+  -- and T5 does not apply
+  reached : el2Enabled v && upTo 1 v && leb (m + 1) m ≡ false
+  reached =
+      let limits = el2Enabled v && upTo 1 v in ap (λ b. limits && b) (lt-leb (m + 1) m (omega arith)) ∙ and-false limits
+
+  opens : Opened Hpmn (Pmevcntr m) read v (viewOf u)
+  unfolding viewOf store storeSettings storeFeatures storeMdcr2 storePmuacr rulesOf counterRules stopAtEl3
+  opens =
+      record {
+        consistent = λ e. still;
+        defined = refl;
+        permits = λ i x. refl;
+        rows = refl ⇊ refl ⇊ refl ⇊ refl ⇊ here reached (el3-spared Hpmn Mdcr3Tpm v refl ⨾ none);
+      }
+
+  -- MODEL D4
+  pub hpmn-opened : Opened Hpmn (Pmevcntr m) read v (viewOf (setAll (opening Hpmn (Pmevcntr m) read) r))
+  hpmn-opened = subst (λ o. Opened Hpmn (Pmevcntr m) read v (viewOf o)) (sym is-set) opens

@@ -1,0 +1,36 @@
+-- `measure::worth` meets its contract: a case for each answer.
+use borrow.Author.Needs.{needs}
+use Rattle.measure.proofs.worth.Statement.{statement}
+use Rattle.measure.proofs.worth.Tie as tie
+
+returns-6 : tie.Need-returns-6
+returns-6 c =
+    let at-a = c .before .before .before in
+    simp (at-a .a .given .1, c .cause-number .ensures)
+
+pub worth-spec : {M : Type 1} → statement M
+worth-spec =
+    tie.close
+    (tie.spec
+    (λ c. search needs)
+    (λ c. search needs)
+    (λ c. search needs)
+    (λ c. search needs)
+    (λ c. search needs)
+    (λ c. search needs)
+    (λ c. search needs)
+    (λ c κs. search needs)
+    (λ c. search needs)
+    (λ c. search needs)
+    (λ c. search needs)
+    (λ c. search needs)
+    (λ c. search needs)
+    (λ c. search needs)
+    (λ c. search needs)
+    (λ c. search needs)
+    (λ c. search needs)
+    (λ c. search needs)
+    returns-6
+    (λ c. search needs)
+    (λ c. search needs)
+    (λ c. search needs))
