@@ -1,12 +1,11 @@
 -- What putting HPMN above a counter changes: m + 1 is at most N, so that the record stays consistent, and the rest is as before.
 use Prim.Native.Nat.{ℕ, _+_, _<_, _≤_}
 use mathlib.Core.Bool.{Bool, true, false, not, cond, _&&_, _||_, and-false, true≢false}
-use mathlib.Core.List.{List, [], _∷_}
 use mathlib.Core.Path.{_≡_, refl, sym, _∙_, ap, subst}
 use native.Mathlib.Omega.{arith}
 use borrow.Author.Tests.{ltb-false, leb-false, le-ltb, lt-leb, ne-eqb}
 use lib.Dec.{leb, ltb, eqb}
-use Rattle.answer.specs.declared.Cause.the-variants.{Hpmn, Mdcr3Tpm}
+use Rattle.answer.specs.declared.Cause.the-variants.{Hpmn}
 use Rattle.answer.specs.declared.Refusal.the-variants.{ValueTooLarge}
 use Rattle.fields.specs.Largest.{largest, exceeds, largestLevel}
 use Rattle.fields.specs.Set.{set, setAll}
@@ -15,15 +14,17 @@ use Rattle.machine.specs.declared.Machine.{Machine}
 use Rattle.machine.specs.Outcome.{refused, done}
 use Rattle.rules.specs.declared.Register.the-variants.{Pmevcntr}
 use Rattle.rules.specs.Step.{undefinedAtOnce}
-use Rattle.rules.specs.Traps.{upTo, el2Enabled, stopAtEl3, counterRules, rulesOf}
+use Rattle.rules.specs.Traps.{upTo, el2Enabled, inaccessible, disabledTarget, stopAtEl3}
+use Rattle.rules.specs.Traps.{counterRules, pmevcntrDisabled, pmevcntrBit, rulesOf}
 use Rattle.state.proofs.Consistent.{numbersLarge, passed}
 use Rattle.state.specs.declared.Verdict.the-variants.{Consistent}
 use Rattle.state.specs.declared.View.{View}
 use Rattle.state.specs.State.{viewOf, tooLarge, refusals, verdictOf}
 use Rattle.store.specs.Store.{store, storeSettings, storeFeatures, storeMdcr2, storePmuacr}
 use Rattle.causes.specs.Responsible.{opening}
-use Rattle.causes.proofs.Rows.{none, _⨾_, Opens, here, _⇊_}
-use Rattle.causes.proofs.Opened.{Opened, el3-spared}
+use Rattle.causes.proofs.Rows.{Opens}
+use Rattle.causes.proofs.Opened.{Opened}
+use Rattle.causes.proofs.Tables.{hpmn-off}
 
 -- one test of several in place of another
 replaced :
@@ -79,18 +80,23 @@ module _ (r : Machine) (m : ℕ) (read : Bool)
       rw (large, p 1, p 2, at-most-n, not-0, and-false (v .settings .features .el2), p 5, p 6, p 7)
 
   -- and T5 does not apply
-  reached : el2Enabled v && upTo 1 v && leb (m + 1) m ≡ false
+  reached : inaccessible (viewOf u) m ≡ false
+  unfolding viewOf store storeSettings storeFeatures storeMdcr2
   reached =
       let limits = el2Enabled v && upTo 1 v in ap (λ b. limits && b) (lt-leb (m + 1) m (omega arith)) ∙ and-false limits
 
+  -- the rows, by whether it does
+  abbrev order : Bool → Type 0
+  order b = Opens Hpmn (rulesOf v (Pmevcntr m) read) (counterRules v (pmevcntrDisabled v read) (pmevcntrBit v read) b)
+
   opens : Opened Hpmn (Pmevcntr m) read v (viewOf u)
-  unfolding viewOf store storeSettings storeFeatures storeMdcr2 storePmuacr rulesOf counterRules stopAtEl3
+  unfolding viewOf store storeSettings storeFeatures storeMdcr2 storePmuacr rulesOf counterRules disabledTarget stopAtEl3
   opens =
       record {
         consistent = λ e. still;
         defined = refl;
         permits = λ i x. refl;
-        rows = refl ⇊ refl ⇊ refl ⇊ refl ⇊ here reached (el3-spared Hpmn Mdcr3Tpm v refl ⨾ none);
+        rows = subst order (sym reached) (hpmn-off r _ _ _);
       }
 
   -- MODEL D4

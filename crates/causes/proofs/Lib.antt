@@ -2,5 +2,8 @@
 pub mod Rows
 pub mod Stopped
 pub mod Opened
+pub mod Tables
 pub mod Hpmn
+pub mod Cases
 pub mod Responsible
+pub mod Examples

@@ -1,7 +1,7 @@
 -- Two orders of traps, one before and one after the control of a cause is opened: what stops an access by that cause in the one
 -- is a row, and in the other the rows behind it decide.
 use mathlib.Core.Bool.{Bool, true, false, not, cond, true≢false}
-use mathlib.Core.List.{List, [], _∷_, _++_}
+use mathlib.Core.List.{List, [], _∷_}
 use mathlib.Core.Path.{_≡_, refl, sym, _∙_, ap}
 use borrow.Author.Tests.{eq-eqb}
 use lib.Dec.{eqb}
@@ -10,7 +10,7 @@ use Rattle.answer.specs.declared.Level.{Level}
 use Rattle.answer.specs.Numbers.{causeNumber}
 use Rattle.machine.specs.First.{first}
 use Rattle.rules.specs.declared.Stop.{Stop}
-use Rattle.causes.specs.Responsible.{anyHolds, StoppedBy}
+use Rattle.causes.specs.Responsible.{StoppedBy}
 
 -- a stop is no trap with cause c
 abbrev pub spares : Cause → Stop → Bool

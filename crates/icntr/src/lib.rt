@@ -1,4 +1,5 @@
-// The order of traps of PMICNTR (MODEL I): each rule's test, and the first that applies, with its cause. `rule3` is I3, and so on.
+// The order of traps of PMICNTR (MODEL I): each rule's test, and the first that applies, with its cause. `rule3` is I3, and so
+// on.
 ghost use mathlib.Core.Path.{_≡_};
 ghost use Rattle.rules.specs.declared.Register.the-variants.{Pmicntr};
 ghost use Rattle.rules.specs.Traps.{icntrOrder, stopOf};

@@ -25,7 +25,11 @@ icntrExamples =
     ∷ answers ((0x10, 0) ∷ (0x7F, 5) ∷ on (0x03 ∷ 0x05 ∷ 0x0A ∷ 0x29 ∷ 0x2F ∷ [])) 1 mrsIcntr (gives 5)
     ∷ answers ((0x7F, 5) ∷ on (0x03 ∷ 0x05 ∷ 0x0A ∷ 0x29 ∷ 0x2F ∷ [])) 2 mrsIcntr (gives 5)
     -- MODEL I3, I7: each bit for its direction; not while EL2 is not enabled, not at level 2
-    ∷ shows ((0x7F, 5) ∷ on (0x03 ∷ 0x05 ∷ 0x2F ∷ [])) 1 (mrsIcntr ∷ msrIcntr 7 ∷ []) (gives 5 ∷ trap El2 0x6230E448 FineGrained ∷ []) []
+    ∷ shows ((0x7F, 5) ∷ on (0x03 ∷ 0x05 ∷ 0x2F ∷ []))
+    1
+    (mrsIcntr ∷ msrIcntr 7 ∷ [])
+    (gives 5 ∷ trap El2 0x6230E448 FineGrained ∷ [])
+    []
     ∷ shows ((0x7F, 5) ∷ on (0x03 ∷ 0x05 ∷ 0x30 ∷ []))
     1
     (mrsIcntr ∷ msrIcntr 7 ∷ [])

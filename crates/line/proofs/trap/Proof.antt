@@ -49,7 +49,18 @@ decimal-requires-2 c κs =
     let at-start = at-bytes .before .before .before .before in
     let level = decimal-length 2 (at-level-number .level-number .result) (omega (arith, at-level-number .level-number .ok)) in
     let digits = length-hex 8 (at-start .args .t .syndrome) in
-    omega (arith, at-bytes .bytes, at-decimal .decimal, at-bytes2 .bytes2, at-hex .hex, at-bytes3 .bytes3, level, digits, c .cause-number .ok, at-start .pre)
+    omega (
+      arith,
+      at-bytes .bytes,
+      at-decimal .decimal,
+      at-bytes2 .bytes2,
+      at-hex .hex,
+      at-bytes3 .bytes3,
+      level,
+      digits,
+      c .cause-number .ok,
+      at-start .pre,
+    )
 
 returns : tie.Need-returns
 unfolding textOf
@@ -71,7 +82,18 @@ returns c =
     let front = written-on (at-bytes .bytes .ensures) target in
     let syndrome = written-on (written-on front (at-bytes2 .bytes2 .ensures)) (at-hex .hex .ensures) in (
       written-on (written-on syndrome (at-bytes3 .bytes3 .ensures)) number,
-      omega (arith, at-bytes .bytes, at-decimal .decimal, at-bytes2 .bytes2, at-hex .hex, at-bytes3 .bytes3, at-decimal2 .decimal2, level, digits, cause),
+      omega (
+        arith,
+        at-bytes .bytes,
+        at-decimal .decimal,
+        at-bytes2 .bytes2,
+        at-hex .hex,
+        at-bytes3 .bytes3,
+        at-decimal2 .decimal2,
+        level,
+        digits,
+        cause,
+      ),
     )
 
 pub trap-spec : {M : Type 1} → statement M

@@ -1,0 +1,121 @@
+-- The two orders of traps with one control opened, row by row: which row is that of the control, and that no row behind it has
+-- the same cause. `refl ⇊` is a row of another cause, with the same test.
+use mathlib.Core.Bool.{Bool, true, false, not, cond, _&&_, _||_, and-false, true≢false}
+use mathlib.Core.List.{[], _∷_}
+use mathlib.Core.Path.{_≡_, refl}
+use lib.Dec.{eqb}
+use Rattle.answer.specs.declared.Cause.{Cause}
+use Rattle.answer.specs.declared.Cause.the-variants.{Pmuserenr, FineGrained, Mdcr2Tpm, Hpmn, Mdcr3Tpm, EnPm2, FgtEn2}
+use Rattle.answer.specs.declared.Level.the-variants.{El3}
+use Rattle.answer.specs.Numbers.{causeNumber}
+use Rattle.fields.specs.Largest.{largest}
+use Rattle.fields.specs.Set.{set, setAll}
+use Rattle.machine.specs.declared.Machine.{Machine}
+use Rattle.rules.specs.declared.Stop.{Stop}
+use Rattle.rules.specs.Traps.{upTo, haveEl3, haltedSdd, stopAtEl3, counterRules, icntrRules}
+use Rattle.state.specs.declared.View.{View}
+use Rattle.state.specs.State.{viewOf}
+use Rattle.store.specs.Store.{store, storeSettings, storeFeatures, storeMdcr2, storePmuacr}
+use Rattle.causes.proofs.Rows.{spares, none, _⨾_, Opens, end, _↓_, here, _⇊_}
+
+-- a stop at EL3 is no trap by a control other than its own
+el3 : (c d : Cause) (v : View) → not (eqb (causeNumber c) (causeNumber d)) ≡ true → spares c (stopAtEl3 v d) ≡ true
+unfolding stopAtEl3
+el3 c d v n = go (haltedSdd v)
+  where
+    go : (h : Bool) → spares c (cond h Stop.Undef (Stop.Trap El3 d)) ≡ true
+    go true = refl
+    go false = n
+
+-- I1 applies no more than before, with EnPM2 1, and with TPM of EL3 0
+enpm2-open : (x e t : Bool) → x && (not e || t) ≡ false → x && (false || t) ≡ false
+enpm2-open false e t n = refl
+enpm2-open true true t n = n
+enpm2-open true false t n = absurd (true≢false n)
+
+tpm-open : (x e t : Bool) → x && (not e || t) ≡ false → x && (not e || false) ≡ false
+tpm-open false e t n = refl
+tpm-open true true t n = refl
+tpm-open true false t n = n
+
+-- the record, and its view after a set command
+module _ (r : Machine) where
+  abbrev v : View
+  v = viewOf r
+
+  -- what the rules of EL3 ask for beside their controls, and T1 and I1
+  abbrev atEl3 : Bool
+  atEl3 = haveEl3 v && upTo 2 v
+
+  abbrev atOnce : Bool
+  atOnce = atEl3 && haltedSdd v && v .settings .features .el3prio
+
+  -- MODEL T1 to T6
+  module _ (d t h : Bool) where
+    pub disabled-off : Opens Pmuserenr (counterRules v d t h) (counterRules v false t h)
+    unfolding counterRules
+    disabled-off = refl ⇊ here (simp and-false) (refl ⨾ refl ⨾ refl ⨾ el3 Pmuserenr Mdcr3Tpm v refl ⨾ none)
+
+    pub bit-off : Opens FineGrained (counterRules v d t h) (counterRules v d false h)
+    unfolding counterRules
+    bit-off = refl ⇊ refl ⇊ here (simp and-false) (refl ⨾ refl ⨾ el3 FineGrained Mdcr3Tpm v refl ⨾ none)
+
+    pub tpm2-off : Opens Mdcr2Tpm (counterRules v d t h) (counterRules (viewOf (setAll ((0x26, 0) ∷ []) r)) d t h)
+    unfolding counterRules stopAtEl3 viewOf set setAll store storeSettings storeFeatures storeMdcr2 storePmuacr largest
+    tpm2-off = refl ⇊ refl ⇊ refl ⇊ here (simp and-false) (refl ⨾ el3 Mdcr2Tpm Mdcr3Tpm v refl ⨾ none)
+
+    pub hpmn-off : Opens Hpmn (counterRules v d t h) (counterRules v d t false)
+    unfolding counterRules
+    hpmn-off = refl ⇊ refl ⇊ refl ⇊ refl ⇊ here refl (el3 Hpmn Mdcr3Tpm v refl ⨾ none)
+
+    pub tpm3-off : Opens Mdcr3Tpm (counterRules v d t h) (counterRules (viewOf (setAll ((0x28, 0) ∷ []) r)) d t h)
+    unfolding counterRules viewOf set setAll store storeSettings storeFeatures storeMdcr2 storePmuacr largest
+    tpm3-off = (refl, λ n. and-false atOnce) ↓ refl ⇊ refl ⇊ refl ⇊ refl ⇊ here (and-false atEl3) none
+
+    -- no rule has cause 6 or 7
+    pub no-enpm2 : Opens EnPm2 (counterRules v d t h) (counterRules v d t h)
+    unfolding counterRules
+    no-enpm2 = refl ⇊ refl ⇊ refl ⇊ refl ⇊ refl ⇊ el3 EnPm2 Mdcr3Tpm v refl ⇊ end
+
+    pub no-fgten2 : Opens FgtEn2 (counterRules v d t h) (counterRules v d t h)
+    unfolding counterRules
+    no-fgten2 = refl ⇊ refl ⇊ refl ⇊ refl ⇊ refl ⇊ el3 FgtEn2 Mdcr3Tpm v refl ⇊ end
+
+  -- MODEL I1 to I6
+  module _ (n : Bool) where
+    pub fgten2-on : Opens FgtEn2 (icntrRules v n) (icntrRules (viewOf (setAll ((0x2B, 1) ∷ []) r)) n)
+    unfolding icntrRules stopAtEl3 viewOf set setAll store storeSettings storeFeatures storeMdcr2 storePmuacr largest
+    fgten2-on =
+        refl ⇊ here (simp and-false) (refl ⨾ refl ⨾ el3 FgtEn2 EnPm2 v refl ⨾ el3 FgtEn2 Mdcr3Tpm v refl ⨾ none)
+
+    pub icntr-bit-on : Opens FineGrained (icntrRules v n) (icntrRules v true)
+    unfolding icntrRules
+    icntr-bit-on =
+        refl ⇊ refl ⇊ here (simp and-false)
+        (refl ⨾ el3 FineGrained EnPm2 v refl ⨾ el3 FineGrained Mdcr3Tpm v refl ⨾ none)
+
+    pub icntr-tpm2-off : Opens Mdcr2Tpm (icntrRules v n) (icntrRules (viewOf (setAll ((0x26, 0) ∷ []) r)) n)
+    unfolding icntrRules stopAtEl3 viewOf set setAll store storeSettings storeFeatures storeMdcr2 storePmuacr largest
+    icntr-tpm2-off =
+        refl ⇊ refl ⇊ refl ⇊ here (simp and-false) (el3 Mdcr2Tpm EnPm2 v refl ⨾ el3 Mdcr2Tpm Mdcr3Tpm v refl ⨾ none)
+
+    pub enpm2-on : Opens EnPm2 (icntrRules v n) (icntrRules (viewOf (setAll ((0x29, 1) ∷ []) r)) n)
+    unfolding icntrRules stopAtEl3 viewOf set setAll store storeSettings storeFeatures storeMdcr2 storePmuacr largest
+    enpm2-on =
+        (refl, enpm2-open atOnce (v .settings .mdcr3 .enpm2) (v .settings .mdcr3 .tpm)) ↓ refl ⇊ refl ⇊ refl ⇊
+        here (and-false atEl3) (el3 EnPm2 Mdcr3Tpm v refl ⨾ none)
+
+    pub icntr-tpm3-off : Opens Mdcr3Tpm (icntrRules v n) (icntrRules (viewOf (setAll ((0x28, 0) ∷ []) r)) n)
+    unfolding icntrRules viewOf set setAll store storeSettings storeFeatures storeMdcr2 storePmuacr largest
+    icntr-tpm3-off =
+        (refl, tpm-open atOnce (v .settings .mdcr3 .enpm2) (v .settings .mdcr3 .tpm)) ↓ refl ⇊ refl ⇊ refl ⇊
+        el3 Mdcr3Tpm EnPm2 v refl ⇊ here (and-false atEl3) none
+
+    -- no rule has cause 1 or 4
+    pub no-pmuserenr : Opens Pmuserenr (icntrRules v n) (icntrRules v n)
+    unfolding icntrRules
+    no-pmuserenr = refl ⇊ refl ⇊ refl ⇊ refl ⇊ el3 Pmuserenr EnPm2 v refl ⇊ el3 Pmuserenr Mdcr3Tpm v refl ⇊ end
+
+    pub no-hpmn : Opens Hpmn (icntrRules v n) (icntrRules v n)
+    unfolding icntrRules
+    no-hpmn = refl ⇊ refl ⇊ refl ⇊ refl ⇊ el3 Hpmn EnPm2 v refl ⇊ el3 Hpmn Mdcr3Tpm v refl ⇊ end
