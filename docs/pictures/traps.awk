@@ -175,8 +175,8 @@ function told(s,    r, t) {
 }
 
 END {
-    need_table("T", 4, 5)
-    need_table("I", 4, 5)
+    need_table("T", 5, 5)
+    need_table("I", 5, 5)
     order = need_clause("A2")
     sub(/^[^:]*: /, "", order)
     parts = split(order, part, "; ")

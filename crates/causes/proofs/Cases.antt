@@ -1,4 +1,5 @@
 -- Each cause for each register: what opening its control changes, from the tables of Tables.antt and, for HPMN, from Hpmn.antt.
+use Prim.Native.Nat.{ℕ}
 use mathlib.Core.Bool.{Bool, true, false}
 use mathlib.Core.Path.{_≡_, refl}
 use Rattle.answer.specs.declared.Cause.{Cause}
@@ -11,51 +12,60 @@ use Rattle.rules.specs.declared.Register.the-variants.{Pmevcntr, Pmswinc, Pmicn
 use Rattle.rules.specs.Step.{undefinedAtOnce}
 use Rattle.rules.specs.Traps.{disabledTarget, stopAtEl3, counterRules, icntrRules, pmicntrBit, rulesOf}
 use Rattle.state.specs.declared.Verdict.the-variants.{Consistent}
+use Rattle.state.specs.declared.View.{View}
 use Rattle.state.specs.State.{viewOf, verdictOf}
 use Rattle.store.specs.Store.{store, storeSettings, storeFeatures, storeMdcr2, storePmuacr}
-use Rattle.causes.specs.Responsible.{opening}
+use Rattle.causes.specs.Responsible.{opening, allows, lowest}
 use Rattle.causes.proofs.Rows.{end}
 use Rattle.causes.proofs.Opened.{Opened, by-rows}
 use Rattle.causes.proofs.Tables.{disabled-off, bit-off, tpm2-off, hpmn-off, tpm3-off, no-enpm2, no-fgten2}
 use Rattle.causes.proofs.Tables.{fgten2-on, icntr-bit-on, icntr-tpm2-off, enpm2-on, icntr-tpm3-off, no-pmuserenr, no-hpmn}
-use Rattle.causes.proofs.Hpmn.{hpmn-opened}
+use Rattle.causes.proofs.Hpmn.{next-allowed, hpmn-opened}
 
--- of a record that is consistent and an access that is not undefined at once
+-- N allows the lowest number above m
+pub lowest-allowed :
+    (v : View) (g : Register) (read : Bool) → undefinedAtOnce v g read ≡ false → allows v g (lowest g) ≡ true
+lowest-allowed v (Pmevcntr m) read n = next-allowed v m read n
+lowest-allowed v Pmswinc read n = refl
+lowest-allowed v Pmicntr read n = refl
+lowest-allowed v Other read n = refl
+
+-- of a consistent record, with HPMN put to a number that is allowed
 pub opens :
-    (r : Machine) (c : Cause) (g : Register) (read : Bool) → verdictOf (viewOf r) ≡ Consistent
-    → undefinedAtOnce (viewOf r) g read ≡ false
-    → Opened c g read (viewOf r) (viewOf (setAll (opening c g read) r))
+    (r : Machine) (h : ℕ) (c : Cause) (g : Register) (read : Bool) → verdictOf (viewOf r) ≡ Consistent
+    → allows (viewOf r) g h ≡ true
+    → Opened c g read (viewOf r) (viewOf (setAll (opening h c g read) r))
 unfolding
     rulesOf counterRules icntrRules disabledTarget stopAtEl3
     viewOf set setAll store storeSettings storeFeatures storeMdcr2 storePmuacr largest
-opens r Pmuserenr (Pmevcntr m) true e n = by-rows _ _ _ _ _ refl (disabled-off r _ _ _)
-opens r Pmuserenr (Pmevcntr m) false e n = by-rows _ _ _ _ _ refl (disabled-off r _ _ _)
-opens r Pmuserenr Pmswinc read e n = by-rows _ _ _ _ _ refl (disabled-off r _ _ _)
-opens r Pmuserenr Pmicntr read e n = by-rows _ _ _ _ _ refl (no-pmuserenr r (pmicntrBit (viewOf r) read))
-opens r Pmuserenr Other read e n = by-rows _ _ _ _ _ refl end
-opens r FineGrained (Pmevcntr m) true e n = by-rows _ _ _ _ _ refl (bit-off r _ _ _)
-opens r FineGrained (Pmevcntr m) false e n = by-rows _ _ _ _ _ refl (bit-off r _ _ _)
-opens r FineGrained Pmswinc read e n = by-rows _ _ _ _ _ refl (bit-off r _ _ _)
-opens r FineGrained Pmicntr true e n = by-rows _ _ _ _ _ refl (icntr-bit-on r (pmicntrBit (viewOf r) true))
-opens r FineGrained Pmicntr false e n = by-rows _ _ _ _ _ refl (icntr-bit-on r (pmicntrBit (viewOf r) false))
-opens r FineGrained Other read e n = by-rows _ _ _ _ _ refl end
-opens r Mdcr2Tpm (Pmevcntr m) read e n = by-rows _ _ _ _ _ refl (tpm2-off r _ _ _)
-opens r Mdcr2Tpm Pmswinc read e n = by-rows _ _ _ _ _ refl (tpm2-off r _ _ _)
-opens r Mdcr2Tpm Pmicntr read e n = by-rows _ _ _ _ _ refl (icntr-tpm2-off r (pmicntrBit (viewOf r) read))
-opens r Mdcr2Tpm Other read e n = by-rows _ _ _ _ _ refl end
-opens r Hpmn (Pmevcntr m) read e n = hpmn-opened r m read e n
-opens r Hpmn Pmswinc read e n = by-rows _ _ _ _ _ refl (hpmn-off r _ _ _)
-opens r Hpmn Pmicntr read e n = by-rows _ _ _ _ _ refl (no-hpmn r (pmicntrBit (viewOf r) read))
-opens r Hpmn Other read e n = by-rows _ _ _ _ _ refl end
-opens r Mdcr3Tpm (Pmevcntr m) read e n = by-rows _ _ _ _ _ refl (tpm3-off r _ _ _)
-opens r Mdcr3Tpm Pmswinc read e n = by-rows _ _ _ _ _ refl (tpm3-off r _ _ _)
-opens r Mdcr3Tpm Pmicntr read e n = by-rows _ _ _ _ _ refl (icntr-tpm3-off r (pmicntrBit (viewOf r) read))
-opens r Mdcr3Tpm Other read e n = by-rows _ _ _ _ _ refl end
-opens r EnPm2 (Pmevcntr m) read e n = by-rows _ _ _ _ _ refl (no-enpm2 r _ _ _)
-opens r EnPm2 Pmswinc read e n = by-rows _ _ _ _ _ refl (no-enpm2 r _ _ _)
-opens r EnPm2 Pmicntr read e n = by-rows _ _ _ _ _ refl (enpm2-on r (pmicntrBit (viewOf r) read))
-opens r EnPm2 Other read e n = by-rows _ _ _ _ _ refl end
-opens r FgtEn2 (Pmevcntr m) read e n = by-rows _ _ _ _ _ refl (no-fgten2 r _ _ _)
-opens r FgtEn2 Pmswinc read e n = by-rows _ _ _ _ _ refl (no-fgten2 r _ _ _)
-opens r FgtEn2 Pmicntr read e n = by-rows _ _ _ _ _ refl (fgten2-on r (pmicntrBit (viewOf r) read))
-opens r FgtEn2 Other read e n = by-rows _ _ _ _ _ refl end
+opens r h Pmuserenr (Pmevcntr m) true e n = by-rows _ _ _ _ _ refl (disabled-off r _ _ _)
+opens r h Pmuserenr (Pmevcntr m) false e n = by-rows _ _ _ _ _ refl (disabled-off r _ _ _)
+opens r h Pmuserenr Pmswinc read e n = by-rows _ _ _ _ _ refl (disabled-off r _ _ _)
+opens r h Pmuserenr Pmicntr read e n = by-rows _ _ _ _ _ refl (no-pmuserenr r (pmicntrBit (viewOf r) read))
+opens r h Pmuserenr Other read e n = by-rows _ _ _ _ _ refl end
+opens r h FineGrained (Pmevcntr m) true e n = by-rows _ _ _ _ _ refl (bit-off r _ _ _)
+opens r h FineGrained (Pmevcntr m) false e n = by-rows _ _ _ _ _ refl (bit-off r _ _ _)
+opens r h FineGrained Pmswinc read e n = by-rows _ _ _ _ _ refl (bit-off r _ _ _)
+opens r h FineGrained Pmicntr true e n = by-rows _ _ _ _ _ refl (icntr-bit-on r (pmicntrBit (viewOf r) true))
+opens r h FineGrained Pmicntr false e n = by-rows _ _ _ _ _ refl (icntr-bit-on r (pmicntrBit (viewOf r) false))
+opens r h FineGrained Other read e n = by-rows _ _ _ _ _ refl end
+opens r h Mdcr2Tpm (Pmevcntr m) read e n = by-rows _ _ _ _ _ refl (tpm2-off r _ _ _)
+opens r h Mdcr2Tpm Pmswinc read e n = by-rows _ _ _ _ _ refl (tpm2-off r _ _ _)
+opens r h Mdcr2Tpm Pmicntr read e n = by-rows _ _ _ _ _ refl (icntr-tpm2-off r (pmicntrBit (viewOf r) read))
+opens r h Mdcr2Tpm Other read e n = by-rows _ _ _ _ _ refl end
+opens r h Hpmn (Pmevcntr m) read e n = hpmn-opened r m h read e n
+opens r h Hpmn Pmswinc read e n = by-rows _ _ _ _ _ refl (hpmn-off r _ _ _)
+opens r h Hpmn Pmicntr read e n = by-rows _ _ _ _ _ refl (no-hpmn r (pmicntrBit (viewOf r) read))
+opens r h Hpmn Other read e n = by-rows _ _ _ _ _ refl end
+opens r h Mdcr3Tpm (Pmevcntr m) read e n = by-rows _ _ _ _ _ refl (tpm3-off r _ _ _)
+opens r h Mdcr3Tpm Pmswinc read e n = by-rows _ _ _ _ _ refl (tpm3-off r _ _ _)
+opens r h Mdcr3Tpm Pmicntr read e n = by-rows _ _ _ _ _ refl (icntr-tpm3-off r (pmicntrBit (viewOf r) read))
+opens r h Mdcr3Tpm Other read e n = by-rows _ _ _ _ _ refl end
+opens r h EnPm2 (Pmevcntr m) read e n = by-rows _ _ _ _ _ refl (no-enpm2 r _ _ _)
+opens r h EnPm2 Pmswinc read e n = by-rows _ _ _ _ _ refl (no-enpm2 r _ _ _)
+opens r h EnPm2 Pmicntr read e n = by-rows _ _ _ _ _ refl (enpm2-on r (pmicntrBit (viewOf r) read))
+opens r h EnPm2 Other read e n = by-rows _ _ _ _ _ refl end
+opens r h FgtEn2 (Pmevcntr m) read e n = by-rows _ _ _ _ _ refl (no-fgten2 r _ _ _)
+opens r h FgtEn2 Pmswinc read e n = by-rows _ _ _ _ _ refl (no-fgten2 r _ _ _)
+opens r h FgtEn2 Pmicntr read e n = by-rows _ _ _ _ _ refl (fgten2-on r (pmicntrBit (viewOf r) read))
+opens r h FgtEn2 Other read e n = by-rows _ _ _ _ _ refl end

@@ -1,15 +1,16 @@
--- What putting HPMN above a counter changes: m + 1 is at most N, so that the record stays consistent, and the rest is as before.
+-- What putting HPMN above a counter changes: with a number up to N the record stays consistent, and the rest is as before. And N
+-- allows m + 1.
 use Prim.Native.Nat.{ℕ, _+_, _<_, _≤_}
 use mathlib.Core.Bool.{Bool, true, false, not, cond, _&&_, _||_, and-false, true≢false}
 use mathlib.Core.Path.{_≡_, refl, sym, _∙_, ap, subst}
 use native.Mathlib.Omega.{arith}
-use borrow.Author.Tests.{ltb-false, leb-false, le-ltb, lt-leb, ne-eqb}
+use borrow.Author.Tests.{ltb-true, ltb-false, leb-true, leb-false, lt-ltb, le-ltb, le-leb, lt-leb, ne-eqb}
 use lib.Dec.{leb, ltb, eqb}
 use Rattle.answer.specs.declared.Cause.the-variants.{Hpmn}
 use Rattle.answer.specs.declared.Refusal.the-variants.{ValueTooLarge}
 use Rattle.fields.specs.Largest.{largest, exceeds, largestLevel}
 use Rattle.fields.specs.Set.{set, setAll}
-use Rattle.machine.proofs.Bools.{or-left, or-right}
+use Rattle.machine.proofs.Bools.{and-left, and-right, or-left, or-right}
 use Rattle.machine.specs.declared.Machine.{Machine}
 use Rattle.machine.specs.Outcome.{refused, done}
 use Rattle.rules.specs.declared.Register.the-variants.{Pmevcntr}
@@ -21,7 +22,7 @@ use Rattle.state.specs.declared.Verdict.the-variants.{Consistent}
 use Rattle.state.specs.declared.View.{View}
 use Rattle.state.specs.State.{viewOf, tooLarge, refusals, verdictOf}
 use Rattle.store.specs.Store.{store, storeSettings, storeFeatures, storeMdcr2, storePmuacr}
-use Rattle.causes.specs.Responsible.{opening}
+use Rattle.causes.specs.Responsible.{opening, allows}
 use Rattle.causes.proofs.Rows.{Opens}
 use Rattle.causes.proofs.Opened.{Opened}
 use Rattle.causes.proofs.Tables.{hpmn-off}
@@ -33,20 +34,29 @@ replaced true b c x y z u n e = absurd (true≢false n)
 replaced false true c x y z u n e = absurd (true≢false n)
 replaced false false c x y z u n e = rw e n
 
-module _ (r : Machine) (m : ℕ) (read : Bool)
-    (consistent : verdictOf (viewOf r) ≡ Consistent) (defined : undefinedAtOnce (viewOf r) (Pmevcntr m) read ≡ false) where
+-- a counter that is not undefined at once is below N, and N allows m + 1
+pub next-allowed :
+    (v : View) (m : ℕ) (read : Bool) → undefinedAtOnce v (Pmevcntr m) read ≡ false → allows v (Pmevcntr m) (m + 1) ≡ true
+next-allowed v m read defined =
+    let n = v .settings .features .n in
+    let below = leb-false n m (or-right (not (v .settings .features .pmuv3)) (leb n m) defined) in
+    rw (lt-ltb m (m + 1) (omega arith)) (le-leb (m + 1) n (omega (arith, below)))
+
+module _ (r : Machine) (m h : ℕ) (read : Bool)
+    (consistent : verdictOf (viewOf r) ≡ Consistent) (allowed : allows (viewOf r) (Pmevcntr m) h ≡ true) where
   abbrev v : View
   v = viewOf r
 
   abbrev n : ℕ
   n = v .settings .features .n
 
-  -- the counter is there
-  below : m < n
-  unfolding viewOf
-  below = leb-false n m (or-right (not (v .settings .features .pmuv3)) (leb n m) defined)
+  above : m < h
+  above = ltb-true m h (and-left (ltb m h) (leb h n) allowed)
 
-  -- and there are at most 31
+  within : h ≤ n
+  within = leb-true h n (and-right (ltb m h) (leb h n) allowed)
+
+  -- N is at most 31
   n-fits : n ≤ 31
   unfolding refusals tooLarge largest
   n-fits =
@@ -59,13 +69,13 @@ module _ (r : Machine) (m : ℕ) (read : Bool)
 
   -- so the set command is not refused
   abbrev u : Machine
-  u = store 0x27 (m + 1) r
+  u = store 0x27 h r
 
-  fits : exceeds (m + 1) 0x27 ≡ false
+  fits : exceeds h 0x27 ≡ false
   unfolding largest
-  fits = le-ltb 31 (m + 1) (omega (arith, below, n-fits))
+  fits = le-ltb 31 h (omega (arith, within, n-fits))
 
-  is-set : setAll (opening Hpmn (Pmevcntr m) read) r ≡ u
+  is-set : setAll (opening h Hpmn (Pmevcntr m) read) r ≡ u
   unfolding set setAll largest
   is-set = ap (λ b. cond b (refused ValueTooLarge r) (done u) .machine) fits
 
@@ -74,16 +84,16 @@ module _ (r : Machine) (m : ℕ) (read : Bool)
   unfolding verdictOf refusals tooLarge viewOf store storeSettings storeFeatures storeMdcr2 storePmuacr
   still =
       let p = passed v consistent in
-      let large = replaced (exceeds n 0x0C) (exceeds (v .settings .mdcr2 .hpmn) 0x27) (exceeds (m + 1) 0x27) _ _ _ _ (p 0) fits in
-      let at-most-n : ltb n (m + 1) ≡ false = le-ltb n (m + 1) (omega (arith, below)) in
-      let not-0 : eqb (m + 1) 0 ≡ false = ne-eqb (m + 1) 0 (λ e. omega (arith, e)) in
+      let large = replaced (exceeds n 0x0C) (exceeds (v .settings .mdcr2 .hpmn) 0x27) (exceeds h 0x27) _ _ _ _ (p 0) fits in
+      let at-most-n : ltb n h ≡ false = le-ltb n h within in
+      let not-0 : eqb h 0 ≡ false = ne-eqb h 0 (λ e. omega (arith, e, above)) in
       rw (large, p 1, p 2, at-most-n, not-0, and-false (v .settings .features .el2), p 5, p 6, p 7)
 
   -- and T5 does not apply
   reached : inaccessible (viewOf u) m ≡ false
   unfolding viewOf store storeSettings storeFeatures storeMdcr2
   reached =
-      let limits = el2Enabled v && upTo 1 v in ap (λ b. limits && b) (lt-leb (m + 1) m (omega arith)) ∙ and-false limits
+      let limits = el2Enabled v && upTo 1 v in ap (λ b. limits && b) (lt-leb h m above) ∙ and-false limits
 
   -- the rows, by whether it does
   abbrev order : Bool → Type 0
@@ -100,5 +110,5 @@ module _ (r : Machine) (m : ℕ) (read : Bool)
       }
 
   -- MODEL D4
-  pub hpmn-opened : Opened Hpmn (Pmevcntr m) read v (viewOf (setAll (opening Hpmn (Pmevcntr m) read) r))
+  pub hpmn-opened : Opened Hpmn (Pmevcntr m) read v (viewOf (setAll (opening h Hpmn (Pmevcntr m) read) r))
   hpmn-opened = subst (λ o. Opened Hpmn (Pmevcntr m) read v (viewOf o)) (sym is-set) opens

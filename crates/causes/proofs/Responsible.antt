@@ -5,16 +5,16 @@ use Rattle.machine.specs.First.{first}
 use Rattle.rules.specs.declared.Stop.{Stop}
 use Rattle.rules.specs.Apply.{apply}
 use Rattle.rules.specs.Step.{decideRegister, decide, step}
-use Rattle.rules.specs.Traps.{stopOf}
+use Rattle.rules.specs.Traps.{rulesOf, stopOf}
 use Rattle.rules.specs.Word.{decode}
 use Rattle.state.specs.declared.Verdict.the-variants.{Consistent}
 use Rattle.state.specs.declared.View.{View}
 use Rattle.state.specs.State.{viewOf, verdictOf}
 use Rattle.rules.proofs.Decided.{in-order}
-use Rattle.causes.specs.Responsible.{opened, trapsWith, CausesAreResponsible}
-use Rattle.causes.proofs.Rows.{find}
+use Rattle.causes.specs.Responsible.{opened, shownStop, isBy, CausesAreResponsible}
+use Rattle.causes.proofs.Rows.{the-row, locate, after}
 use Rattle.causes.proofs.Stopped.{trapped, spared-said}
-use Rattle.causes.proofs.Cases.{opens}
+use Rattle.causes.proofs.Cases.{lowest-allowed, opens}
 
 -- on a consistent record the decision is that about the register
 of-register :
@@ -27,20 +27,26 @@ pub responsible : CausesAreResponsible
 unfolding step stopOf
 responsible w x r t e =
     let i = decode w in
+    let c = t .cause in
     let known = trapped r w x t e in
-    let o = opens r (t .cause) (i .register) (i .read) (known .consistent) (known .defined) in
-    let found = find (t .cause) (t .target) (o .rows) (known .stops) in
-    let left = first (found .row .later) Stop.Pass in
-    let still = o .consistent (known .consistent) in
-    let v = viewOf (opened (t .cause) w r) in
-    let decided =
-    of-register v w x still
-    ∙ sym (in-order v (i .register) i x (o .defined ∙ known .defined) (sym (found .after)) (sym (o .permits i x))) in
+    let found = locate c (t .target) (rulesOf (viewOf r) (i .register) (i .read)) (known .stops) in
     record {
-      row = found .row;
-      consistent = still;
-      goes-on = decided;
-      gone =
-          ap (λ d. trapsWith (t .cause) (apply d (opened (t .cause) w r) .answer)) decided
-          ∙ spared-said (opened (t .cause) w r) (t .cause) (i .syndrome) left (viewOf r) (i .register) i x (found .other);
+      row = the-row (found .1);
+      allowed = lowest-allowed (viewOf r) (i .register) (i .read) (known .defined);
+      goes-on =
+          λ h allowed.
+          let o = opens r h c (i .register) (i .read) (known .consistent) allowed in
+          let next = after c (t .target) (o .rows) (found .1) in
+          let still = o .consistent (known .consistent) in
+          let v = viewOf (opened h c w r) in
+          let decided =
+          of-register v w x still
+          ∙ sym (in-order v (i .register) i x (o .defined ∙ known .defined) (sym (next .0)) (sym (o .permits i x))) in
+          record {
+            consistent = still;
+            decided = decided;
+            gone =
+                ap (λ d. isBy c (shownStop (apply d (opened h c w r) .answer))) decided
+                ∙ spared-said (opened h c w r) c (i .syndrome) (first (found .0) Stop.Pass) (viewOf r) (i .register) i x (next .1);
+          };
     }

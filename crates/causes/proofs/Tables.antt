@@ -1,6 +1,6 @@
 -- The two orders of traps with one control opened, row by row: which row is that of the control, and that no row behind it has
 -- the same cause. `refl ⇊` is a row of another cause, with the same test.
-use mathlib.Core.Bool.{Bool, true, false, not, cond, _&&_, _||_, and-false, true≢false}
+use mathlib.Core.Bool.{Bool, true, false, not, _&&_, _||_, and-false, true≢false}
 use mathlib.Core.List.{[], _∷_}
 use mathlib.Core.Path.{_≡_, refl}
 use lib.Dec.{eqb}
@@ -16,16 +16,14 @@ use Rattle.rules.specs.Traps.{upTo, haveEl3, haltedSdd, stopAtEl3, counterRules
 use Rattle.state.specs.declared.View.{View}
 use Rattle.state.specs.State.{viewOf}
 use Rattle.store.specs.Store.{store, storeSettings, storeFeatures, storeMdcr2, storePmuacr}
-use Rattle.causes.proofs.Rows.{spares, none, _⨾_, Opens, end, _↓_, here, _⇊_}
+use Rattle.machine.proofs.Bools.{chosen}
+use Rattle.causes.specs.Responsible.{isBy}
+use Rattle.causes.proofs.Rows.{nil, _⨾_, Opens, end, _⇣_, here, _⇊_}
 
 -- a stop at EL3 is no trap by a control other than its own
-el3 : (c d : Cause) (v : View) → not (eqb (causeNumber c) (causeNumber d)) ≡ true → spares c (stopAtEl3 v d) ≡ true
+el3 : (c d : Cause) (v : View) → eqb (causeNumber c) (causeNumber d) ≡ false → isBy c (stopAtEl3 v d) ≡ false
 unfolding stopAtEl3
-el3 c d v n = go (haltedSdd v)
-  where
-    go : (h : Bool) → spares c (cond h Stop.Undef (Stop.Trap El3 d)) ≡ true
-    go true = refl
-    go false = n
+el3 c d v n = chosen (λ s. isBy c s ≡ false) (haltedSdd v) Stop.Undef (Stop.Trap El3 d) refl n
 
 -- I1 applies no more than before, with EnPM2 1, and with TPM of EL3 0
 enpm2-open : (x e t : Bool) → x && (not e || t) ≡ false → x && (false || t) ≡ false
@@ -54,23 +52,23 @@ module _ (r : Machine) where
   module _ (d t h : Bool) where
     pub disabled-off : Opens Pmuserenr (counterRules v d t h) (counterRules v false t h)
     unfolding counterRules
-    disabled-off = refl ⇊ here (simp and-false) (refl ⨾ refl ⨾ refl ⨾ el3 Pmuserenr Mdcr3Tpm v refl ⨾ none)
+    disabled-off = refl ⇊ here (simp and-false) (refl ⨾ refl ⨾ refl ⨾ el3 Pmuserenr Mdcr3Tpm v refl ⨾ nil)
 
     pub bit-off : Opens FineGrained (counterRules v d t h) (counterRules v d false h)
     unfolding counterRules
-    bit-off = refl ⇊ refl ⇊ here (simp and-false) (refl ⨾ refl ⨾ el3 FineGrained Mdcr3Tpm v refl ⨾ none)
+    bit-off = refl ⇊ refl ⇊ here (simp and-false) (refl ⨾ refl ⨾ el3 FineGrained Mdcr3Tpm v refl ⨾ nil)
 
     pub tpm2-off : Opens Mdcr2Tpm (counterRules v d t h) (counterRules (viewOf (setAll ((0x26, 0) ∷ []) r)) d t h)
     unfolding counterRules stopAtEl3 viewOf set setAll store storeSettings storeFeatures storeMdcr2 storePmuacr largest
-    tpm2-off = refl ⇊ refl ⇊ refl ⇊ here (simp and-false) (refl ⨾ el3 Mdcr2Tpm Mdcr3Tpm v refl ⨾ none)
+    tpm2-off = refl ⇊ refl ⇊ refl ⇊ here (simp and-false) (refl ⨾ el3 Mdcr2Tpm Mdcr3Tpm v refl ⨾ nil)
 
     pub hpmn-off : Opens Hpmn (counterRules v d t h) (counterRules v d t false)
     unfolding counterRules
-    hpmn-off = refl ⇊ refl ⇊ refl ⇊ refl ⇊ here refl (el3 Hpmn Mdcr3Tpm v refl ⨾ none)
+    hpmn-off = refl ⇊ refl ⇊ refl ⇊ refl ⇊ here refl (el3 Hpmn Mdcr3Tpm v refl ⨾ nil)
 
     pub tpm3-off : Opens Mdcr3Tpm (counterRules v d t h) (counterRules (viewOf (setAll ((0x28, 0) ∷ []) r)) d t h)
     unfolding counterRules viewOf set setAll store storeSettings storeFeatures storeMdcr2 storePmuacr largest
-    tpm3-off = (refl, λ n. and-false atOnce) ↓ refl ⇊ refl ⇊ refl ⇊ refl ⇊ here (and-false atEl3) none
+    tpm3-off = (refl, λ n. and-false atOnce) ⇣ refl ⇊ refl ⇊ refl ⇊ refl ⇊ here (and-false atEl3) nil
 
     -- no rule has cause 6 or 7
     pub no-enpm2 : Opens EnPm2 (counterRules v d t h) (counterRules v d t h)
@@ -86,30 +84,30 @@ module _ (r : Machine) where
     pub fgten2-on : Opens FgtEn2 (icntrRules v n) (icntrRules (viewOf (setAll ((0x2B, 1) ∷ []) r)) n)
     unfolding icntrRules stopAtEl3 viewOf set setAll store storeSettings storeFeatures storeMdcr2 storePmuacr largest
     fgten2-on =
-        refl ⇊ here (simp and-false) (refl ⨾ refl ⨾ el3 FgtEn2 EnPm2 v refl ⨾ el3 FgtEn2 Mdcr3Tpm v refl ⨾ none)
+        refl ⇊ here (simp and-false) (refl ⨾ refl ⨾ el3 FgtEn2 EnPm2 v refl ⨾ el3 FgtEn2 Mdcr3Tpm v refl ⨾ nil)
 
     pub icntr-bit-on : Opens FineGrained (icntrRules v n) (icntrRules v true)
     unfolding icntrRules
     icntr-bit-on =
         refl ⇊ refl ⇊ here (simp and-false)
-        (refl ⨾ el3 FineGrained EnPm2 v refl ⨾ el3 FineGrained Mdcr3Tpm v refl ⨾ none)
+        (refl ⨾ el3 FineGrained EnPm2 v refl ⨾ el3 FineGrained Mdcr3Tpm v refl ⨾ nil)
 
     pub icntr-tpm2-off : Opens Mdcr2Tpm (icntrRules v n) (icntrRules (viewOf (setAll ((0x26, 0) ∷ []) r)) n)
     unfolding icntrRules stopAtEl3 viewOf set setAll store storeSettings storeFeatures storeMdcr2 storePmuacr largest
     icntr-tpm2-off =
-        refl ⇊ refl ⇊ refl ⇊ here (simp and-false) (el3 Mdcr2Tpm EnPm2 v refl ⨾ el3 Mdcr2Tpm Mdcr3Tpm v refl ⨾ none)
+        refl ⇊ refl ⇊ refl ⇊ here (simp and-false) (el3 Mdcr2Tpm EnPm2 v refl ⨾ el3 Mdcr2Tpm Mdcr3Tpm v refl ⨾ nil)
 
     pub enpm2-on : Opens EnPm2 (icntrRules v n) (icntrRules (viewOf (setAll ((0x29, 1) ∷ []) r)) n)
     unfolding icntrRules stopAtEl3 viewOf set setAll store storeSettings storeFeatures storeMdcr2 storePmuacr largest
     enpm2-on =
-        (refl, enpm2-open atOnce (v .settings .mdcr3 .enpm2) (v .settings .mdcr3 .tpm)) ↓ refl ⇊ refl ⇊ refl ⇊
-        here (and-false atEl3) (el3 EnPm2 Mdcr3Tpm v refl ⨾ none)
+        (refl, enpm2-open atOnce (v .settings .mdcr3 .enpm2) (v .settings .mdcr3 .tpm)) ⇣ refl ⇊ refl ⇊ refl ⇊
+        here (and-false atEl3) (el3 EnPm2 Mdcr3Tpm v refl ⨾ nil)
 
     pub icntr-tpm3-off : Opens Mdcr3Tpm (icntrRules v n) (icntrRules (viewOf (setAll ((0x28, 0) ∷ []) r)) n)
     unfolding icntrRules viewOf set setAll store storeSettings storeFeatures storeMdcr2 storePmuacr largest
     icntr-tpm3-off =
-        (refl, tpm-open atOnce (v .settings .mdcr3 .enpm2) (v .settings .mdcr3 .tpm)) ↓ refl ⇊ refl ⇊ refl ⇊
-        el3 Mdcr3Tpm EnPm2 v refl ⇊ here (and-false atEl3) none
+        (refl, tpm-open atOnce (v .settings .mdcr3 .enpm2) (v .settings .mdcr3 .tpm)) ⇣ refl ⇊ refl ⇊ refl ⇊
+        el3 Mdcr3Tpm EnPm2 v refl ⇊ here (and-false atEl3) nil
 
     -- no rule has cause 1 or 4
     pub no-pmuserenr : Opens Pmuserenr (icntrRules v n) (icntrRules v n)

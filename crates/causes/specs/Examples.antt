@@ -1,5 +1,5 @@
--- Examples of causes, as data: each cause for each register, direction, level and target at which it can be, and any two controls
--- that are shut at once. Counter 3 is below HPMN, counter 4 is at it.
+-- Examples of causes, as data: each cause for each register, direction, level and target at which it can be, and each two controls
+-- of an access shut at once.
 use Prim.Native.Nat.{ℕ}
 use mathlib.Core.List.{List, [], _∷_, _++_, map}
 use Rattle.answer.specs.declared.Cause.{Cause}
@@ -14,81 +14,104 @@ abbrev pub trapped : List (ℕ × ℕ) → ℕ → List (Action × ℕ) → Leve
 trapped given level accesses target cause =
     shows (countersOn given) level (map (λ a. a .0) accesses) (map (λ a. trap target (a .1) cause) accesses) []
 
--- MODEL W9: accesses with their syndromes: MRS and MSR of a counter below HPMN
-abbrev pub below : List (Action × ℕ)
-below = (mrs3, 0x6236F851) ∷ (msr3 5, 0x6236F850) ∷ []
+-- MODEL W9: accesses with their syndromes: MRS and MSR of counter 3, below HPMN
+abbrev pub counter3 : List (Action × ℕ)
+counter3 = (mrs3, 0x6236F851) ∷ (msr3 5, 0x6236F850) ∷ []
 
--- MODEL W9: of a counter at HPMN
-abbrev pub atHpmn : List (Action × ℕ)
-atHpmn = (mrs4, 0x6238F851) ∷ (access 0xD51BE882 5, 0x6238F850) ∷ []
+-- MODEL W9: of counter 4, at HPMN
+abbrev pub counter4 : List (Action × ℕ)
+counter4 = (mrs4, 0x6238F851) ∷ (access 0xD51BE882 5, 0x6238F850) ∷ []
 
 -- MODEL W9: MSR of PMSWINC
-abbrev pub increment : List (Action × ℕ)
-increment = (swinc 8, 0x6238E438) ∷ []
+abbrev pub pmswinc : List (Action × ℕ)
+pmswinc = (swinc 8, 0x6238E438) ∷ []
 
 -- MODEL W9: MRS and MSR of PMICNTR
-abbrev pub icntr : List (Action × ℕ)
-icntr = (mrsIcntr, 0x6230E449) ∷ (msrIcntr 7, 0x6230E448) ∷ []
+abbrev pub pmicntr : List (Action × ℕ)
+pmicntr = (mrsIcntr, 0x6230E449) ∷ (msrIcntr 7, 0x6230E448) ∷ []
 
 -- MODEL P12: for D1 to D7, one control shut
 unfoldable pub single : List Example
 single =
     -- MODEL D1: at level 0; to EL1, and to EL2 under TGE
-    trapped ((0x20, 0) ∷ []) 0 (below ++ atHpmn ++ increment) El1 Pmuserenr
-    ∷ trapped ((0x20, 0) ∷ (0x25, 1) ∷ []) 0 (below ++ atHpmn ++ increment) El2 Pmuserenr
+    trapped ((0x20, 0) ∷ []) 0 (counter3 ++ pmswinc) El1 Pmuserenr
+    ∷ trapped ((0x20, 0) ∷ (0x25, 1) ∷ []) 0 (counter3 ++ pmswinc) El2 Pmuserenr
     -- MODEL D2: at levels 0 and 1
-    ∷ trapped (on (0x2C ∷ 0x2D ∷ 0x2E ∷ [])) 0 (below ++ increment) El2 FineGrained
-    ∷ trapped (on (0x2C ∷ 0x2D ∷ 0x2E ∷ [])) 1 (below ++ increment) El2 FineGrained
-    ∷ trapped (on (0x03 ∷ 0x05 ∷ [])) 0 icntr El2 FineGrained
-    ∷ trapped (on (0x03 ∷ 0x05 ∷ [])) 1 icntr El2 FineGrained
+    ∷ trapped (on (0x2C ∷ 0x2D ∷ 0x2E ∷ [])) 0 (counter3 ++ pmswinc) El2 FineGrained
+    ∷ trapped (on (0x2C ∷ 0x2D ∷ 0x2E ∷ [])) 1 (counter3 ++ pmswinc) El2 FineGrained
+    ∷ trapped (on (0x03 ∷ 0x05 ∷ [])) 0 pmicntr El2 FineGrained
+    ∷ trapped (on (0x03 ∷ 0x05 ∷ [])) 1 pmicntr El2 FineGrained
     -- MODEL D3: at levels 0 and 1
-    ∷ trapped (on (0x03 ∷ 0x26 ∷ [])) 0 (below ++ increment ++ icntr) El2 Mdcr2Tpm
-    ∷ trapped (on (0x03 ∷ 0x26 ∷ [])) 1 (below ++ increment ++ icntr) El2 Mdcr2Tpm
+    ∷ trapped (on (0x03 ∷ 0x26 ∷ [])) 0 (counter3 ++ pmswinc ++ pmicntr) El2 Mdcr2Tpm
+    ∷ trapped (on (0x03 ∷ 0x26 ∷ [])) 1 (counter3 ++ pmswinc ++ pmicntr) El2 Mdcr2Tpm
     -- MODEL D4: at levels 0 and 1
-    ∷ trapped [] 0 atHpmn El2 Hpmn
-    ∷ trapped [] 1 atHpmn El2 Hpmn
+    ∷ trapped [] 0 counter4 El2 Hpmn
+    ∷ trapped [] 1 counter4 El2 Hpmn
     -- MODEL D5: at levels 0 to 2
-    ∷ trapped (on (0x03 ∷ 0x0A ∷ 0x28 ∷ 0x29 ∷ [])) 0 (below ++ increment ++ icntr) El3 Mdcr3Tpm
-    ∷ trapped (on (0x03 ∷ 0x0A ∷ 0x28 ∷ 0x29 ∷ [])) 1 (below ++ increment ++ icntr) El3 Mdcr3Tpm
-    ∷ trapped (on (0x03 ∷ 0x0A ∷ 0x28 ∷ 0x29 ∷ [])) 2 (below ++ atHpmn ++ increment ++ icntr) El3 Mdcr3Tpm
+    ∷ trapped (on (0x03 ∷ 0x0A ∷ 0x28 ∷ 0x29 ∷ [])) 0 (counter3 ++ pmswinc ++ pmicntr) El3 Mdcr3Tpm
+    ∷ trapped (on (0x03 ∷ 0x0A ∷ 0x28 ∷ 0x29 ∷ [])) 1 (counter3 ++ pmswinc ++ pmicntr) El3 Mdcr3Tpm
+    ∷ trapped (on (0x03 ∷ 0x0A ∷ 0x28 ∷ 0x29 ∷ [])) 2 (counter3 ++ counter4 ++ pmswinc ++ pmicntr) El3 Mdcr3Tpm
     -- MODEL D6: at levels 0 to 2
-    ∷ trapped (on (0x03 ∷ 0x0A ∷ [])) 0 icntr El3 EnPm2
-    ∷ trapped (on (0x03 ∷ 0x0A ∷ [])) 1 icntr El3 EnPm2
-    ∷ trapped (on (0x03 ∷ 0x0A ∷ [])) 2 icntr El3 EnPm2
+    ∷ trapped (on (0x03 ∷ 0x0A ∷ [])) 0 pmicntr El3 EnPm2
+    ∷ trapped (on (0x03 ∷ 0x0A ∷ [])) 1 pmicntr El3 EnPm2
+    ∷ trapped (on (0x03 ∷ 0x0A ∷ [])) 2 pmicntr El3 EnPm2
     -- MODEL D7: at levels 0 and 1
-    ∷ trapped (on (0x03 ∷ 0x05 ∷ 0x0A ∷ 0x29 ∷ 0x2F ∷ 0x30 ∷ [])) 0 icntr El2 FgtEn2
-    ∷ trapped (on (0x03 ∷ 0x05 ∷ 0x0A ∷ 0x29 ∷ 0x2F ∷ 0x30 ∷ [])) 1 icntr El2 FgtEn2
+    ∷ trapped (on (0x03 ∷ 0x05 ∷ 0x0A ∷ 0x29 ∷ 0x2F ∷ 0x30 ∷ [])) 0 pmicntr El2 FgtEn2
+    ∷ trapped (on (0x03 ∷ 0x05 ∷ 0x0A ∷ 0x29 ∷ 0x2F ∷ 0x30 ∷ [])) 1 pmicntr El2 FgtEn2
     ∷ []
 
--- MODEL P12: for D0, two controls shut: the one that is first in the order is named
+-- MODEL T2: before T3, T4, T5 and T6, with these settings beside, to this target
+abbrev pub disabledPairs : List (ℕ × ℕ) → Level → List Example
+disabledPairs given target =
+    trapped ((0x20, 0) ∷ given ++ on (0x2C ∷ 0x2D ∷ 0x2E ∷ [])) 0 (counter3 ++ pmswinc) target Pmuserenr
+    ∷ trapped ((0x20, 0) ∷ given ++ on (0x26 ∷ [])) 0 (counter3 ++ pmswinc) target Pmuserenr
+    ∷ trapped ((0x20, 0) ∷ given) 0 counter4 target Pmuserenr
+    ∷ trapped ((0x20, 0) ∷ given ++ on (0x0A ∷ 0x28 ∷ [])) 0 (counter3 ++ pmswinc) target Pmuserenr
+    ∷ []
+
+-- MODEL T3 to T5: each before those behind it, from a level
+abbrev pub counterPairs : ℕ → List Example
+counterPairs level =
+    -- MODEL T3 before T4, T5 and T6
+    trapped (on (0x26 ∷ 0x2C ∷ 0x2D ∷ 0x2E ∷ [])) level (counter3 ++ pmswinc) El2 FineGrained
+    ∷ trapped (on (0x2C ∷ 0x2D ∷ [])) level counter4 El2 FineGrained
+    ∷ trapped (on (0x0A ∷ 0x28 ∷ 0x2A ∷ 0x2C ∷ 0x2D ∷ 0x2E ∷ [])) level (counter3 ++ pmswinc) El2 FineGrained
+    -- MODEL T4 before T5 and T6
+    ∷ trapped ((0x26, 1) ∷ []) level counter4 El2 Mdcr2Tpm
+    ∷ trapped (on (0x0A ∷ 0x26 ∷ 0x28 ∷ [])) level (counter3 ++ pmswinc) El2 Mdcr2Tpm
+    -- MODEL T5 before T6
+    ∷ trapped (on (0x0A ∷ 0x28 ∷ [])) level counter4 El2 Hpmn
+    ∷ []
+
+-- MODEL I2 to I4: each before those behind it, from a level
+abbrev pub icntrPairs : ℕ → List Example
+icntrPairs level =
+    -- MODEL I2 before I3, I4, I5 and I6
+    trapped (on (0x03 ∷ 0x05 ∷ 0x0A ∷ 0x29 ∷ [])) level pmicntr El2 FgtEn2
+    ∷ trapped (on (0x03 ∷ 0x05 ∷ 0x0A ∷ 0x26 ∷ 0x29 ∷ 0x2F ∷ 0x30 ∷ [])) level pmicntr El2 FgtEn2
+    ∷ trapped (on (0x03 ∷ 0x05 ∷ 0x0A ∷ 0x2F ∷ 0x30 ∷ [])) level pmicntr El2 FgtEn2
+    ∷ trapped (on (0x03 ∷ 0x05 ∷ 0x0A ∷ 0x28 ∷ 0x29 ∷ 0x2F ∷ 0x30 ∷ [])) level pmicntr El2 FgtEn2
+    -- MODEL I3 before I4, I5 and I6
+    ∷ trapped (on (0x03 ∷ 0x05 ∷ 0x26 ∷ [])) level pmicntr El2 FineGrained
+    ∷ trapped (on (0x03 ∷ 0x05 ∷ 0x0A ∷ 0x2B ∷ [])) level pmicntr El2 FineGrained
+    ∷ trapped (on (0x03 ∷ 0x05 ∷ 0x0A ∷ 0x28 ∷ 0x29 ∷ 0x2B ∷ [])) level pmicntr El2 FineGrained
+    -- MODEL I4 before I5 and I6
+    ∷ trapped (on (0x03 ∷ 0x0A ∷ 0x26 ∷ [])) level pmicntr El2 Mdcr2Tpm
+    ∷ trapped (on (0x03 ∷ 0x0A ∷ 0x26 ∷ 0x28 ∷ 0x29 ∷ [])) level pmicntr El2 Mdcr2Tpm
+    ∷ []
+
+-- MODEL I5: before I6, from a level
+abbrev pub el3Pair : ℕ → Example
+el3Pair level = trapped (on (0x03 ∷ 0x0A ∷ 0x28 ∷ [])) level pmicntr El3 EnPm2
+
+-- MODEL P12: for D0 and D10, two controls shut, from each level at which both can stop the access: the one that is first in the
+-- order is named
 unfoldable pub pairs : List Example
 pairs =
-    -- MODEL T2 before T3, T4, T5 and T6
-    trapped ((0x20, 0) ∷ on (0x2C ∷ 0x2D ∷ 0x2E ∷ [])) 0 (below ++ increment) El1 Pmuserenr
-    ∷ trapped ((0x20, 0) ∷ (0x26, 1) ∷ []) 0 (below ++ increment) El1 Pmuserenr
-    ∷ trapped ((0x20, 0) ∷ []) 0 atHpmn El1 Pmuserenr
-    ∷ trapped ((0x20, 0) ∷ (0x0A, 1) ∷ (0x28, 1) ∷ []) 0 (below ++ increment) El1 Pmuserenr
-    -- MODEL T3 before T4, T5 and T6
-    ∷ trapped (on (0x26 ∷ 0x2C ∷ 0x2D ∷ 0x2E ∷ [])) 1 (below ++ increment) El2 FineGrained
-    ∷ trapped (on (0x2C ∷ 0x2D ∷ [])) 1 atHpmn El2 FineGrained
-    ∷ trapped (on (0x0A ∷ 0x28 ∷ 0x2A ∷ 0x2C ∷ 0x2D ∷ 0x2E ∷ [])) 1 (below ++ increment) El2 FineGrained
-    -- MODEL T4 before T5 and T6
-    ∷ trapped ((0x26, 1) ∷ []) 1 atHpmn El2 Mdcr2Tpm
-    ∷ trapped (on (0x0A ∷ 0x26 ∷ 0x28 ∷ [])) 1 (below ++ increment) El2 Mdcr2Tpm
-    -- MODEL T5 before T6
-    ∷ trapped (on (0x0A ∷ 0x28 ∷ [])) 1 atHpmn El2 Hpmn
-    -- MODEL I2 before I3, I4, I5 and I6
-    ∷ trapped (on (0x03 ∷ 0x05 ∷ 0x0A ∷ 0x29 ∷ [])) 1 icntr El2 FgtEn2
-    ∷ trapped (on (0x03 ∷ 0x05 ∷ 0x0A ∷ 0x26 ∷ 0x29 ∷ 0x2F ∷ 0x30 ∷ [])) 1 icntr El2 FgtEn2
-    ∷ trapped (on (0x03 ∷ 0x05 ∷ 0x0A ∷ 0x2F ∷ 0x30 ∷ [])) 1 icntr El2 FgtEn2
-    ∷ trapped (on (0x03 ∷ 0x05 ∷ 0x0A ∷ 0x28 ∷ 0x29 ∷ 0x2F ∷ 0x30 ∷ [])) 1 icntr El2 FgtEn2
-    -- MODEL I3 before I4, I5 and I6
-    ∷ trapped (on (0x03 ∷ 0x05 ∷ 0x26 ∷ [])) 1 icntr El2 FineGrained
-    ∷ trapped (on (0x03 ∷ 0x05 ∷ 0x0A ∷ 0x2B ∷ [])) 1 icntr El2 FineGrained
-    ∷ trapped (on (0x03 ∷ 0x05 ∷ 0x0A ∷ 0x28 ∷ 0x29 ∷ 0x2B ∷ [])) 1 icntr El2 FineGrained
-    -- MODEL I4 before I5 and I6
-    ∷ trapped (on (0x03 ∷ 0x0A ∷ 0x26 ∷ [])) 1 icntr El2 Mdcr2Tpm
-    ∷ trapped (on (0x03 ∷ 0x0A ∷ 0x26 ∷ 0x28 ∷ 0x29 ∷ [])) 1 icntr El2 Mdcr2Tpm
-    -- MODEL I5 before I6
-    ∷ trapped (on (0x03 ∷ 0x0A ∷ 0x28 ∷ [])) 1 icntr El3 EnPm2
-    ∷ []
+    disabledPairs [] El1
+    ++ disabledPairs ((0x25, 1) ∷ []) El2
+    ++ counterPairs 0
+    ++ counterPairs 1
+    ++ icntrPairs 0
+    ++ icntrPairs 1
+    ++ map el3Pair (0 ∷ 1 ∷ 2 ∷ [])

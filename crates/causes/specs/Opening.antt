@@ -12,25 +12,21 @@ use Rattle.machine.specs.declared.Machine.{Machine}
 use Rattle.machine.specs.Machine.{withLevel}
 use Rattle.rules.specs.Example.{on, usual, trap, gives}
 use Rattle.rules.specs.Step.{step}
-use Rattle.causes.specs.Responsible.{opened}
+use Rattle.rules.specs.declared.Stop.{Stop}
+use Rattle.rules.specs.Word.{decode}
+use Rattle.causes.specs.Responsible.{lowest, opened, shownStop}
 
--- MODEL D12: the record with the control opened that the answer names; the same record where it names none
-abbrev pub openedAfter : Answer → ℕ → Machine → Machine
-openedAfter Answer.Ok w r = r
-openedAfter Answer.End w r = r
-openedAfter Answer.Undef w r = r
-openedAfter Answer.Other w r = r
-openedAfter Answer.Error w r = r
-openedAfter (Answer.Trap t) w r = opened (t .cause) w r
-openedAfter (Answer.Value x) w r = r
-openedAfter (Answer.Mrs x rt) w r = r
-openedAfter (Answer.Refused n) w r = r
+-- MODEL D12: the record with the control opened that a stop names, HPMN by the lowest number; the same record where it names none
+abbrev pub openedBy : Stop → ℕ → Machine → Machine
+openedBy Stop.Pass w r = r
+openedBy Stop.Undef w r = r
+openedBy (Stop.Trap l c) w r = opened (lowest (decode w .register)) c w r
 
 -- MODEL D12: what the access with word w and operand x answers, k times, the control that each answer names being opened before
 -- the next
 unfoldable pub inTurn : ℕ → ℕ → ℕ → Machine → List Answer
 inTurn zero w x r = []
-inTurn (suc k) w x r = let a = step w x r .answer in a ∷ inTurn k w x (openedAfter a w r)
+inTurn (suc k) w x r = let a = step w x r .answer in a ∷ inTurn k w x (openedBy (shownStop a) w r)
 
 -- MODEL P12: an access from a level, its syndrome, the targets and causes of its traps in turn, and what it answers at last
 pub record Turns : Type 0 where
@@ -41,8 +37,8 @@ pub record Turns : Type 0 where
   pub traps : List (Level × Cause)
   pub last : Answer
 
--- MODEL D1 to D7: the usual record with EL3, ICNTR, FGT2 and FGTEn, and every control shut: EN 0, both TPM 1, the fine-grained
--- bits 1 where 1 traps; the others are 0 as they are. With F0 level 0 can read PMICNTR
+-- MODEL D1 to D7: the usual record, in which HPMN is 4, with EL3, ICNTR, FGT2 and FGTEn, and every control shut: EN 0, both TPM 1,
+-- the fine-grained bits 1 where 1 traps; those where 0 traps, EnPM2 and FGTEn2 are 0 as before. With F0 level 0 can read PMICNTR
 unfoldable pub shut : Machine
 shut =
     setAll
@@ -73,7 +69,7 @@ swincTraps = (El2, FineGrained) ∷ (El2, Mdcr2Tpm) ∷ (El3, Mdcr3Tpm) ∷ []
 abbrev pub icntrTraps : List (Level × Cause)
 icntrTraps = (El2, FgtEn2) ∷ (El2, FineGrained) ∷ (El2, Mdcr2Tpm) ∷ (El3, EnPm2) ∷ (El3, Mdcr3Tpm) ∷ []
 
--- MODEL P12: for D10 to D13, each register and direction from level 0, and what is left of that from levels 1 to 3
+-- MODEL P12: for D10 to D13, each register and direction from each level at which a control of its stops it, and one from level 3
 unfoldable pub turnExamples : List Turns
 turnExamples =
     turns 0 0xD53BE882 0 0x6238F851 ((El1, Pmuserenr) ∷ counterTraps) (gives 9)
@@ -82,13 +78,14 @@ turnExamples =
     ∷ turns 0 0xD53B9402 0 0x6230E449 icntrTraps (gives 5)
     ∷ turns 0 0xD51B9402 7 0x6230E448 icntrTraps Answer.Ok
     ∷ turns 1 0xD53BE882 0 0x6238F851 counterTraps (gives 9)
+    ∷ turns 1 0xD51BE882 7 0x6238F850 counterTraps Answer.Ok
     ∷ turns 1 0xD51B9C81 8 0x6238E438 swincTraps Answer.Ok
     ∷ turns 1 0xD53B9402 0 0x6230E449 icntrTraps (gives 5)
+    ∷ turns 1 0xD51B9402 7 0x6230E448 icntrTraps Answer.Ok
     ∷ turns 2 0xD53BE882 0 0x6238F851 ((El3, Mdcr3Tpm) ∷ []) (gives 9)
+    ∷ turns 2 0xD51BE882 7 0x6238F850 ((El3, Mdcr3Tpm) ∷ []) Answer.Ok
     ∷ turns 2 0xD51B9C81 8 0x6238E438 ((El3, Mdcr3Tpm) ∷ []) Answer.Ok
     ∷ turns 2 0xD53B9402 0 0x6230E449 ((El3, EnPm2) ∷ (El3, Mdcr3Tpm) ∷ []) (gives 5)
+    ∷ turns 2 0xD51B9402 7 0x6230E448 ((El3, EnPm2) ∷ (El3, Mdcr3Tpm) ∷ []) Answer.Ok
     ∷ turns 3 0xD53BE882 0 0x6238F851 [] (gives 9)
-    -- MODEL U2, W7: an access that is no trap opens nothing
-    ∷ turns 2 0xD53BE8C2 0 0x623CF851 [] Answer.Undef
-    ∷ turns 0 0xD503201F 0 0 [] Answer.Other
     ∷ []

@@ -5,7 +5,7 @@ pub mod permitted; // permitted.rt: what a permitted access is to do
 
 ghost use mathlib.Core.Path.{_≡_};
 ghost use Rattle.rules.specs.Traps.{stopOf};
-ghost use Rattle.rules.specs.Step.{undefinedAtOnce, unlessStopped, decideRegister, decide};
+ghost use Rattle.rules.specs.Step.{undefinedAtOnce, decideRegister, decide};
 use answer::Answer;
 use answer::Trap;
 use rules::Decision;
@@ -40,21 +40,6 @@ fn stop_of(v: View, r: Register, read: bool) -> Stop
     }
 }
 
-// What was permitted, unless the order of traps stops it.
-fn unless_stopped(syndrome: u32, stop: Stop, d: Decision) -> Decision
-    ensures { λ r. ⌜ r ≡ unlessStopped syndrome stop d ⌝ }
-{
-    match stop {
-        Stop::Pass => d,
-        Stop::Undef => Decision::Says(Answer::Undef),
-        Stop::Trap(target, cause) => Decision::Says(Answer::Trap(Trap {
-            target: target,
-            cause: cause,
-            syndrome: syndrome,
-        })),
-    }
-}
-
 // The decision about a register of a consistent record.
 fn decide_register(v: View, r: Register, i: Instruction, x: u64) -> Decision
     ensures { λ d. ⌜ d ≡ decideRegister v r i x ⌝ }
@@ -62,11 +47,15 @@ fn decide_register(v: View, r: Register, i: Instruction, x: u64) -> Decision
     if undefined_at_once(v, r, i.read) {
         return Decision::Says(Answer::Undef);
     }
-    unless_stopped(
-        i.syndrome,
-        stop_of(v, r, i.read),
-        permitted::permitted(v, r, i, x),
-    )
+    match stop_of(v, r, i.read) {
+        Stop::Pass => permitted::permitted(v, r, i, x),
+        Stop::Undef => Decision::Says(Answer::Undef),
+        Stop::Trap(target, cause) => Decision::Says(Answer::Trap(Trap {
+            target: target,
+            cause: cause,
+            syndrome: i.syndrome,
+        })),
+    }
 }
 
 // The decision about the access with word w and operand x.

@@ -1,6 +1,6 @@
--- What a conjunction that holds, and a disjunction that does not, say of their parts. (How both compute is in the library's
--- Core.Bool.)
-use mathlib.Core.Bool.{Bool, true, false, _&&_, _||_}
+-- What a conjunction that holds, and a disjunction that does not, say of their parts; and what holds of a choice by a test. (How
+-- they compute is in the library's Core.Bool.)
+use mathlib.Core.Bool.{Bool, true, false, cond, _&&_, _||_}
 use mathlib.Core.Path.{_≡_, refl}
 
 pub and-left : (a b : Bool) → a && b ≡ true → a ≡ true
@@ -18,3 +18,8 @@ or-left false b e = refl
 pub or-right : (a b : Bool) → a || b ≡ false → b ≡ false
 or-right true b e = cc
 or-right false b e = e
+
+-- what holds of both sides holds of what is chosen
+pub chosen : {A : Type 0} (P : A → Type 0) (b : Bool) (x y : A) → P x → P y → P (cond b x y)
+chosen P true x y p q = p
+chosen P false x y p q = q

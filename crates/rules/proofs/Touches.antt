@@ -3,10 +3,10 @@ use Prim.Native.Nat.{ℕ}
 use mathlib.Core.Bool.{Bool, true, false, cond, _||_}
 use mathlib.Core.Path.{_≡_, refl}
 use lib.Dec.{eqb}
-use Rattle.answer.specs.declared.Answer.{Answer}
 use Rattle.answer.specs.declared.Cause.the-variants.{Mdcr3Tpm}
 use Rattle.answer.specs.declared.Level.the-variants.{El3}
 use Rattle.bits.specs.Bits.{bit}
+use Rattle.machine.proofs.Bools.{chosen}
 use Rattle.machine.specs.First.{first}
 use Rattle.machine.proofs.First.{testAt, gives, some-held}
 use Rattle.state.specs.declared.Verdict.{Verdict}
@@ -53,17 +53,13 @@ passes (Stop.Trap l c) = false
 -- no row of the order lets the access pass
 all-stop : (v : View) (disabled trapBit above : Bool) → gives passes (counterRules v disabled trapBit above) ≡ false
 unfolding counterRules stopAtEl3 passes
-all-stop v disabled trapBit above = go (haltedSdd v)
-  where
-    go : (h : Bool) → passes (cond h Stop.Undef (Stop.Trap El3 Mdcr3Tpm)) || false ≡ false
-    go true = refl
-    go false = refl
+all-stop v disabled trapBit above =
+    chosen (λ s. passes s || false ≡ false) (haltedSdd v) Stop.Undef (Stop.Trap El3 Mdcr3Tpm) refl refl
 
 -- a place that is not touched by what is permitted is not touched on the way up to the decision
 module _ (p : Place) where
   pub through-cond : (b : Bool) (d e : Decision) → touches p d ≡ false → touches p e ≡ false → touches p (cond b d e) ≡ false
-  through-cond true d e m n = m
-  through-cond false d e m n = n
+  through-cond b d e m n = chosen (λ x. touches p x ≡ false) b d e m n
 
   through-stop : (syndrome : ℕ) (s : Stop) (d : Decision) → touches p d ≡ false → touches p (unlessStopped syndrome s d) ≡ false
   through-stop syndrome Stop.Pass d n = n

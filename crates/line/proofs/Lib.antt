@@ -1,0 +1,2 @@
+-- What is shown of the texts of answers.
+pub mod Texts
