@@ -19,7 +19,7 @@ pub enum Answer {
     Refused(u8),
 }
 
-/// MODEL D0: the control that a trap is owed to, the one that the branch of the pseudocode
+/// MODEL D0: the control behind a trap, the one that the branch of the pseudocode
 /// tests last. What only switches that branch on or off (E2H, TGE, FGTEn, whether
 /// EL2 is enabled or EL3 implemented) is never a cause. An access that is
 /// undefined has none, even where a bit of MDCR_EL3 made it so.

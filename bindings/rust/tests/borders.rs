@@ -39,3 +39,15 @@ fn the_longest_output() {
     assert_eq!(text.len(), 37_122);
     assert!(text.ends_with("1365 value 0000000000000000\n1366 end\n"));
 }
+
+/// A set command.
+fn set(field: u8, value: u64) -> Vec<u8> {
+    [&[1, field][..], &value.to_le_bytes()[..]].concat()
+}
+
+#[test]
+fn a_trap_names_its_cause() {
+    let mut input = [set(0x00, 1), set(0x09, 1), set(0x10, 1), set(0x0C, 6), set(0x27, 4)].concat();
+    input.extend([2, 1, 3, 0x82, 0xE8, 0x3B, 0xD5, 0, 0, 0, 0, 0, 0, 0, 0, 0]);
+    assert!(lines(&input).ends_with("\n7 trap 2 6238F851 4\n8 end\n"));
+}
