@@ -15,9 +15,9 @@ use Rattle.rules.specs.Apply.{incremented, apply}
 use Rattle.rules.specs.Step.{decideRegister, decide, step}
 use Rattle.rules.specs.Example.{perform, performAll, allValid, valid, usual, start, actual, expected}
 use Rattle.causes.specs.Examples.{single, pairs}
-use Rattle.causes.specs.Opening.{inTurn, shut, turnsActual, turnsExpected, turnExamples}
+use Rattle.causes.specs.Opening.{inTurn, allClosed, turnsActual, turnsExpected, turnExamples}
 
--- MODEL D0 to D7: one control shut, and two
+-- MODEL D0 to D7: one control closed, and two
 pub examples-hold : map actual (single ++ pairs) ≡ map expected (single ++ pairs)
 unfolding
     largest set setAll viewOf tooLarge refusals verdictOf store storeSettings storeFeatures storeMdcr2 storePmuacr
@@ -30,11 +30,11 @@ pub settings-valid : allValid (single ++ pairs) ≡ true
 unfolding largest valid allValid single pairs
 settings-valid = refl
 
--- MODEL D10 to D13: all controls shut, and opened one after the other as the causes name them
+-- MODEL D10 to D13: all controls closed, and opened one after the other as the causes name them
 pub turns-hold : map turnsActual turnExamples ≡ map turnsExpected turnExamples
 unfolding
     largest set setAll viewOf tooLarge refusals verdictOf store storeSettings storeFeatures storeMdcr2 storePmuacr
     named register syndrome decode written disabledTarget stopAtEl3 counterRules icntrRules rulesOf stopOf
     placeAccess addMask raised incremented fromBits decideRegister decide apply step usual
-    inTurn shut turnsActual turnsExpected turnExamples
+    inTurn allClosed turnsActual turnsExpected turnExamples
 turns-hold = refl

@@ -30,6 +30,7 @@ responsible w x r t e =
     let c = t .cause in
     let known = trapped r w x t e in
     let found = locate c (t .target) (rulesOf (viewOf r) (i .register) (i .read)) (known .stops) in
+    let left = first (found .0) Stop.Pass in
     record {
       row = the-row (found .1);
       allowed = lowest-allowed (viewOf r) (i .register) (i .read) (known .defined);
@@ -47,6 +48,6 @@ responsible w x r t e =
             decided = decided;
             gone =
                 ap (λ d. isBy c (shownStop (apply d (opened h c w r) .answer))) decided
-                ∙ spared-said (opened h c w r) c (i .syndrome) (first (found .0) Stop.Pass) (viewOf r) (i .register) i x (next .1);
+                ∙ spared-said (opened h c w r) c (i .syndrome) left (viewOf r) (i .register) i x (next .1);
           };
     }

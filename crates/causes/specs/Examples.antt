@@ -1,5 +1,5 @@
--- Examples of causes, as data: each cause for each register, direction, level and target at which it can be, and each two controls
--- of an access shut at once.
+-- Examples of causes, as data: each cause for each register, direction, level and target at which it can be, and each two
+-- controls of an access closed at once.
 use Prim.Native.Nat.{ℕ}
 use mathlib.Core.List.{List, [], _∷_, _++_, map}
 use Rattle.answer.specs.declared.Cause.{Cause}
@@ -30,7 +30,7 @@ pmswinc = (swinc 8, 0x6238E438) ∷ []
 abbrev pub pmicntr : List (Action × ℕ)
 pmicntr = (mrsIcntr, 0x6230E449) ∷ (msrIcntr 7, 0x6230E448) ∷ []
 
--- MODEL P12: for D1 to D7, one control shut
+-- MODEL P12: for D1 to D7, one control closed
 unfoldable pub single : List Example
 single =
     -- MODEL D1: at level 0; to EL1, and to EL2 under TGE
@@ -104,7 +104,7 @@ icntrPairs level =
 abbrev pub el3Pair : ℕ → Example
 el3Pair level = trapped (on (0x03 ∷ 0x0A ∷ 0x28 ∷ [])) level pmicntr El3 EnPm2
 
--- MODEL P12: for D0 and D10, two controls shut, from each level at which both can stop the access: the one that is first in the
+-- MODEL P12: for D0 and D10, two controls closed, from each level at which both can stop the access: the one that is first in the
 -- order is named
 unfoldable pub pairs : List Example
 pairs =

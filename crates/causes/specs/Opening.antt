@@ -1,4 +1,4 @@
--- Examples of accesses whose controls are all shut, and are opened one after the other as the causes name them.
+-- Examples of accesses whose controls are all closed, and are opened one after the other as the causes name them.
 use Prim.Native.Nat.{ℕ, zero, suc}
 use mathlib.Core.List.{List, [], _∷_, _++_, map}
 use lib.ListN.{length}
@@ -16,7 +16,7 @@ use Rattle.rules.specs.declared.Stop.{Stop}
 use Rattle.rules.specs.Word.{decode}
 use Rattle.causes.specs.Responsible.{lowest, opened, shownStop}
 
--- MODEL D12: the record with the control opened that a stop names, HPMN by the lowest number; the same record where it names none
+-- MODEL D11: the record with the control opened that a stop names, HPMN by the lowest number; the same record where it names none
 abbrev pub openedBy : Stop → ℕ → Machine → Machine
 openedBy Stop.Pass w r = r
 openedBy Stop.Undef w r = r
@@ -37,23 +37,24 @@ pub record Turns : Type 0 where
   pub traps : List (Level × Cause)
   pub last : Answer
 
--- MODEL D1 to D7: the usual record, in which HPMN is 4, with EL3, ICNTR, FGT2 and FGTEn, and every control shut: EN 0, both TPM 1,
--- the fine-grained bits 1 where 1 traps; those where 0 traps, EnPM2 and FGTEn2 are 0 as before. With F0 level 0 can read PMICNTR
-unfoldable pub shut : Machine
-shut =
+-- MODEL D1 to D7: the usual record, in which HPMN is 4, with EL3, ICNTR, FGT2 and FGTEn, and every control closed: EN 0, both
+-- TPM 1, the fine-grained bits 1 where 1 traps; those where 0 traps, EnPM2 and FGTEn2 are 0 as before. With F0 level 0 can read
+-- PMICNTR
+unfoldable pub allClosed : Machine
+allClosed =
     setAll
     ((0x20, 0) ∷ (0x64, 9) ∷ (0x7F, 5) ∷ on (0x03 ∷ 0x05 ∷ 0x0A ∷ 0x26 ∷ 0x28 ∷ 0x2A ∷ 0x2C ∷ 0x2D ∷ 0x2E ∷ 0x33 ∷ []))
     usual
 
--- MODEL D12: what the definitions give
+-- MODEL D12: what the definitions give; answers alone are compared
 unfoldable pub turnsActual : Turns → List Answer
-turnsActual e = inTurn (suc (length (e .traps))) (e .word) (e .operand) (withLevel (e .level) shut)
+turnsActual e = inTurn (suc (length (e .traps))) (e .word) (e .operand) (withLevel (e .level) allClosed)
 
--- MODEL D12: what the example says
+-- MODEL P12: what the example says
 unfoldable pub turnsExpected : Turns → List Answer
 turnsExpected e = map (λ t. trap (t .0) (e .syndrome) (t .1)) (e .traps) ++ (e .last ∷ [])
 
--- MODEL D12: an example by its parts
+-- MODEL P12: an example by its parts
 abbrev pub turns : ℕ → ℕ → ℕ → ℕ → List (Level × Cause) → Answer → Turns
 turns l w x s t a = record { level = l; word = w; operand = x; syndrome = s; traps = t; last = a }
 

@@ -96,8 +96,8 @@ isBy c Stop.Pass = false
 isBy c Stop.Undef = false
 isBy c (Stop.Trap l d) = eqb (causeNumber c) (causeNumber d)
 
--- MODEL D11 to D13: what comes of the access with word w and operand x once the control of cause c is opened in record r; later are
--- the rows behind the one that stopped it
+-- MODEL D11 to D13: what comes of the access with word w and operand x once the control of cause c is opened in record r; later
+-- are the rows behind the one that stopped it
 pub record GoesOn (w x : ℕ) (r : Machine) (c : Cause) (later : List (Bool × Stop)) (h : ℕ) : Type 0 where
   -- MODEL D11: the record is consistent
   pub consistent : verdictOf (viewOf (opened h c w r)) ≡ Consistent
@@ -114,7 +114,8 @@ pub record Responsible (w x : ℕ) (r : Machine) (t : Trap) : Type 0 where
   pub row : StoppedBy (rulesOf (viewOf r) (decode w .register) (decode w .read)) (Stop.Trap (t .target) (t .cause))
   -- MODEL D11: N allows HPMN to be the lowest number above m
   pub allowed : allows (viewOf r) (decode w .register) (lowest (decode w .register)) ≡ true
-  -- MODEL D11 to D13: with the control opened, HPMN by any number that is allowed, and all else as it was
+  -- MODEL D11 to D13: with the control opened, HPMN by any number h that is allowed (which other causes do not use), and all else
+  -- as it was
   pub goes-on : (h : ℕ) → allows (viewOf r) (decode w .register) h ≡ true → GoesOn w x r (t .cause) (row .later) h
 
 -- MODEL D10 to D13: every trap that an access answers has a cause that is responsible for it

@@ -22,7 +22,8 @@ upTo l v = leb (v .level) l
 abbrev pub atEl0 : View → Bool
 atEl0 v = eqb (v .level) 0
 
--- MODEL F3: EL2 is enabled, which T2 to T5, I2 to I4 and G9 look at. R12 to R14, G12 and G14 look at whether it is implemented
+-- MODEL F3: EL2 is enabled, which T2 to T5, I2 to I4, G9, R11, R12 and R16 look at. R12 to R14, G12 and G14 look at whether it is
+-- implemented
 abbrev pub el2Enabled : View → Bool
 el2Enabled v = v .settings .execution .el2enabled
 

@@ -29,7 +29,7 @@ pub fn stop_at_el3(v: View, cause: Cause) -> Stop
     Stop::Trap(Level::El3, cause)
 }
 
-// The order for PMEVCNTR and PMSWINC, from whether PMUSERENR shuts it out at EL0, the fine-grained bit, and T5's test,
+// The order for PMEVCNTR and PMSWINC, from whether PMUSERENR has disabled it at EL0, the fine-grained bit, and T5's test,
 // whether the counter is inaccessible: MODEL T1 to T6.
 fn counter_order(v: View, disabled: bool, trap_bit: bool, rule5: bool) -> Stop
     ensures { λ r. ⌜ r ≡ counterOrder v disabled «trap_bit» rule5 ⌝ }

@@ -1,5 +1,5 @@
 //! MODEL D0 to D13: what stops an access, by the cause that its trap names. Each cause for each
-//! kind of access at each level, with each target; any two controls shut at once,
+//! kind of access at each level, with each target; any two controls closed at once,
 //! and all of them, opened one after the other as the traps name them; stops at
 //! EL3 that are undefined and name nothing; and HPMN at each counter.
 
@@ -54,7 +54,7 @@ fn controls_at(kind: Kind, level: u8) -> Vec<Control> {
 }
 
 /// With EL2 and EL3 and both kinds of fine-grained traps. EN, FGTEn2, EnPM2 and
-/// the bits of nPMICNTR are shut, and so are the other fine-grained bits.
+/// the bits of nPMICNTR are closed, and so are the other fine-grained bits.
 const GIVEN: [Change; 11] = [
     (ICNTR, 1),
     (FGT2, 1),
@@ -70,7 +70,7 @@ const GIVEN: [Change; 11] = [
 ];
 
 /// The controls of the access are open. Those of other registers and of the other
-/// direction stay shut where they are none of its own: they are never named.
+/// direction stay closed where they are none of its own: they are never named.
 fn script(kind: Kind) -> Script {
     let mut script = Script::counters(&GIVEN);
     open(&mut script, &controls(kind));
@@ -86,15 +86,15 @@ fn open(script: &mut Script, controls: &[Control]) {
     }
 }
 
-fn shut(script: &mut Script, controls: &[Control]) {
-    for &(_, (field, _, shut)) in controls {
-        script.set(field, shut);
+fn close(script: &mut Script, controls: &[Control]) {
+    for &(_, (field, _, closed)) in controls {
+        script.set(field, closed);
     }
 }
 
-/// Some controls shut at once: the access, and again after each of them is opened.
+/// Some controls closed at once: the access, and again after each of them is opened.
 fn open_in_turn(script: &mut Script, kind: Kind, controls: &[Control]) {
-    shut(script, controls);
+    close(script, controls);
     script.probe(kind, 3);
     for &control in controls {
         open(script, &[control]);
@@ -102,7 +102,7 @@ fn open_in_turn(script: &mut Script, kind: Kind, controls: &[Control]) {
     }
 }
 
-/// What is changed beside one shut control: the trap stays, goes elsewhere, has
+/// What is changed beside one closed control: the trap stays, goes elsewhere, has
 /// another cause, or is none. Some records are refused at some levels.
 const AROUND: [&[Change]; 17] = [
     &[(EL2_ENABLED, 0)],
@@ -124,7 +124,7 @@ const AROUND: [&[Change]; 17] = [
     &[(P9, 0)],
 ];
 
-/// One control shut at one level, its trap going to one target.
+/// One control closed at one level, its trap going to one target.
 fn single_session(kind: Kind, control: Control, level: u8, target: u8) -> Vec<u8> {
     let mut script = script(kind);
     if (control.0, target) == (1, 2) {
@@ -133,7 +133,7 @@ fn single_session(kind: Kind, control: Control, level: u8, target: u8) -> Vec<u8
     script.level(level);
     script.probe(kind, 3);
     open_in_turn(&mut script, kind, &[control]);
-    shut(&mut script, &[control]);
+    close(&mut script, &[control]);
     for changes in AROUND {
         script.with(changes, |s| s.probe(kind, 3));
     }
@@ -181,10 +181,10 @@ fn undefined_session(kind: Kind, level: u8, stops: &[Control]) -> Vec<u8> {
     let switches: [Switch; 3] = [(HALTED, 0, 1), (SDD, 0, 1), (EL3_PRIORITY, 0, 1)];
     let mut script = script(kind);
     script.level(level);
-    shut(&mut script, stops);
+    close(&mut script, stops);
     script.subsets(&switches, |s| s.probe(kind, 3));
     for control in controls_at(kind, level).into_iter().filter(|control| !is_stop(control)) {
-        shut(&mut script, &[control]);
+        close(&mut script, &[control]);
         script.subsets(&switches, |s| s.probe(kind, 3));
         open(&mut script, &[control]);
     }

@@ -1,5 +1,5 @@
 //! MODEL D0 and D10: random accesses that are stopped, and by what: some of their
-//! controls are shut and then opened again, mostly the one that stops the access.
+//! controls are closed and then opened again, mostly the one that stops the access.
 
 use super::*;
 
@@ -9,7 +9,7 @@ type Control = (u8, u64, u64);
 
 // Accesses that are stopped, and by what.
 impl Writer {
-    /// An access while some of its controls are shut, and again as they are opened
+    /// An access while some of its controls are closed, and again as they are opened
     /// one by one: mostly that which stops it now, else any.
     pub(super) fn stop_access(&mut self) {
         let before = self.machine.clone();
@@ -17,9 +17,9 @@ impl Writer {
         let level = self.rng.pick(&[0, 0, 1, 1, 2]);
         self.level_or_0(level);
         let (word, controls) = self.stoppable();
-        for &(field, open, shut) in &controls {
+        for &(field, open, closed) in &controls {
             match self.rng.below(10) {
-                0..=4 => self.set(field, shut),
+                0..=4 => self.set(field, closed),
                 5..=8 => self.set(field, open),
                 _ => {}
             }
@@ -143,7 +143,7 @@ impl Writer {
         let m = self.counter() as u64 % n;
         let open = m + 1 + self.rng.below(n - m);
         let least = if self.machine.hpmn0 { 0 } else { 1 };
-        let shut = self.rng.below(m + 1).max(least);
-        (m as u32, (0x27, open, shut))
+        let closed = self.rng.below(m + 1).max(least);
+        (m as u32, (0x27, open, closed))
     }
 }

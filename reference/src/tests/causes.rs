@@ -1,5 +1,5 @@
 //! MODEL D0 to D13: the causes of traps. Under every setting of the controls that
-//! an order of traps looks at, the first control that is shut is named, and to open
+//! an order of traps looks at, the first control that is closed is named, and to open
 //! it alone is enough to be rid of the cause; the line ends with its number; and
 //! random sessions meet each of them.
 
@@ -167,7 +167,7 @@ fn setting(rng: &mut Rng, bits: &[u8], number: u32) -> Machine {
 /// Every setting of the bits that the orders of traps look at, HPMN at the counter
 /// or above it, at every level that the record can have.
 #[test]
-fn the_cause_is_the_first_control_that_is_shut() {
+fn the_cause_is_the_first_control_that_is_closed() {
     let mut rng = Rng::new(16, 17);
     let mut seen = BTreeSet::new();
     for bits in [&COUNTER_BITS[..], &PMICNTR_BITS] {
@@ -224,11 +224,11 @@ fn other_bits_of_pmuserenr_leave_the_cause() {
 /// stopped by everything at once, its controls opened in the order of the causes.
 #[test]
 fn causes_are_printed() {
-    let shut = "01 0A v:1 01 03 v:1 01 05 v:1 01 20 v:0 01 26 v:1 01 27 v:1 01 28 v:1 01 2A v:1
+    let closed = "01 0A v:1 01 03 v:1 01 05 v:1 01 20 v:0 01 26 v:1 01 27 v:1 01 28 v:1 01 2A v:1
                 01 2C v:1";
     let read = "03 62 E8 3B D5 v:0";
     let open = ["01 20 v:1", "01 2C v:0", "01 26 v:0", "01 27 v:4", "01 28 v:0"];
-    let text = format!("{shut} {read} {} {read}", open.join(&format!(" {read} ")));
+    let text = format!("{closed} {read} {} {read}", open.join(&format!(" {read} ")));
     let expected = [
         "trap 1 6236F851 1",
         "trap 2 6236F851 2",
@@ -240,7 +240,7 @@ fn causes_are_printed() {
     assert_eq!(answers_of(&text), expected);
     let read = "03 02 94 3B D5 v:0";
     let open = ["01 2B v:1", "01 2F v:1", "01 26 v:0", "01 29 v:1", "01 28 v:0"];
-    let text = format!("{shut} {read} {} {read}", open.join(&format!(" {read} ")));
+    let text = format!("{closed} {read} {} {read}", open.join(&format!(" {read} ")));
     let expected = [
         "trap 2 6230E449 7",
         "trap 2 6230E449 2",

@@ -13,21 +13,24 @@ returns-2 c =
     let at-stop-of = c .before .before .before in
     let at-if1 = at-stop-of .before in
     let at-undefined-at-once = at-if1 .before in
-    in-order _ _ _ _ (sym (at-undefined-at-once .undefined-at-once .ensures) ∙ at-if1 .if1 .left) (sym (c .before .enum-told .given .1) ∙ at-stop-of .stop-of .ensures) (c .permitted .ensures)
+    in-order _ _ _ _ (sym (at-undefined-at-once .undefined-at-once .ensures) ∙ at-if1 .if1 .left)
+    (sym (c .before .enum-told .given .1) ∙ at-stop-of .stop-of .ensures) (c .permitted .ensures)
 
 returns-3 : tie.Need-returns-3
 returns-3 c =
     let at-stop-of = c .before .before in
     let at-if1 = at-stop-of .before in
     let at-undefined-at-once = at-if1 .before in
-    in-order _ _ _ _ (sym (at-undefined-at-once .undefined-at-once .ensures) ∙ at-if1 .if1 .left) (sym (c .enum-told2 .given .1) ∙ at-stop-of .stop-of .ensures) refl
+    in-order _ _ _ _ (sym (at-undefined-at-once .undefined-at-once .ensures) ∙ at-if1 .if1 .left)
+    (sym (c .enum-told2 .given .1) ∙ at-stop-of .stop-of .ensures) refl
 
 returns-4 : tie.Need-returns-4
 returns-4 c =
     let at-stop-of = c .before .before .before in
     let at-if1 = at-stop-of .before in
     let at-undefined-at-once = at-if1 .before in
-    in-order _ _ _ _ (sym (at-undefined-at-once .undefined-at-once .ensures) ∙ at-if1 .if1 .left) (sym (c .before .target .given .1) ∙ at-stop-of .stop-of .ensures) refl
+    in-order _ _ _ _ (sym (at-undefined-at-once .undefined-at-once .ensures) ∙ at-if1 .if1 .left)
+    (sym (c .before .target .given .1) ∙ at-stop-of .stop-of .ensures) refl
 
 pub decide-register-spec : {M : Type 1} → statement M
 decide-register-spec =
