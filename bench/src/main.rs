@@ -5,22 +5,37 @@
 //! `bench/run` does all three.
 
 mod access;
+mod counted;
 mod loops;
 mod memory;
+mod register;
 mod sessions;
 
 use std::process::ExitCode;
+
+/// The rows of accesses, then those of registers, in the order of `count`.
+fn report(totals: &[u64]) -> Result<(), String> {
+    if totals.len() != access::counts() + register::counts() {
+        return Err(format!("{} counts are not two for each row and loop", totals.len()));
+    }
+    let (accesses, registers) = totals.split_at(access::counts());
+    access::report(accesses)?;
+    register::report(registers)?;
+    sessions::report();
+    Ok(())
+}
 
 fn main() -> ExitCode {
     let arguments: Vec<String> = std::env::args().skip(1).collect();
     let done = match arguments.first().map(String::as_str) {
         Some("count") => {
             access::count();
+            register::count();
             Ok(())
         }
         Some("report") => {
             let totals: Vec<u64> = arguments[1..].iter().filter_map(|a| a.parse().ok()).collect();
-            access::report(&totals).map(|()| sessions::report())
+            report(&totals)
         }
         Some("memory") if arguments.len() > 1 => memory::report(&arguments[1..]),
         _ => Err("usage: bench count | report TOTALS.. | memory PROGRAM [ARGUMENT..]".to_string()),

@@ -1,0 +1,2 @@
+-- What is proved of the measured loop.
+pub mod Total

@@ -1,0 +1,2 @@
+-- What the measured loop computes.
+pub mod Measure
