@@ -1,26 +1,50 @@
 -- Noninterference of `access::lent`, as specs/Calls.antt states it, by the induction in Calls.antt. All that is known of a call
 -- is the contract of `access::lent`, as the check takes it from the source: were it weaker, `call-exact` would be refused.
+use Prim.Native.Nat.{ℕ}
 use mathlib.Core.Logic.{∥∥₁-map}
 use mathlib.Core.Path.{_≡_, refl, sym, _∙_, ap}
 use borrow.Fn.World.{World}
+use Rattle.answer.specs.declared.Answer.{Answer}
+use Rattle.machine.specs.declared.Machine.{Machine}
 use Rattle.machine.specs.Machine.{withCounters, withInstructions, withOvs}
 use Rattle.rules.specs.Step.{step}
 use Rattle.access.specs.Calls.{Obeyed, Reference, to, MayGive, CallsRun, CallsNoninterference}
+use Rattle.access.specs.declared.Said.{Said}
 use Rattle.access.specs.Lent.{Lent}
-use Rattle.access.proofs.Calls.{asked, said, stated, any, Exact, exact-calls-run, exact-noninterference}
+use Rattle.access.proofs.Calls.{asked, said, stated, any, OfStep, Exact, exact-calls-run, exact-noninterference}
 use Rattle.access.proofs.Whole.{whole}
 use Rattle.access.proofs.lent as lent′
 
+-- the record afterwards has the counters that the call left, its instruction counter and its overflow flags; the rest of it
+-- stayed with the caller
+abbrev pub Stayed : Machine → Machine → Type 0
+Stayed r after = after ≡ withCounters (after .counters) (withInstructions (after .instructions) (withOvs (after .ovs) r))
+
+-- what a call says, where it answers so and leaves such a record
+abbrev pub sayingSo : Answer → Machine → Said
+sayingSo answer after = record { answer = answer; instructions = after .instructions; ovs = after .ovs }
+
+module _ (w x : ℕ) (r : Machine) where
+  pub only-step :
+      (answer : Answer) (after : Machine) → Stayed r after → ∥ Lent (step w x r) (sayingSo answer after) (after .counters) ∥₁
+      → ∥ OfStep w x r answer after ∥₁
+  only-step answer after stayed s =
+      ∥∥₁-map s (λ l. let o = whole w x r _ _ l in (ap (λ o. o .answer) o, stayed ∙ ap (λ o. o .machine) o))
+
+  pub step-lent : Lent (step w x r) (sayingSo (step w x r .answer) (step w x r .machine)) (step w x r .machine .counters)
+  step-lent = record { answer = refl; instructions = refl; ovs = refl; counters = refl }
+
+  pub step-stayed : Stayed r (step w x r .machine)
+  step-stayed = sym (ap (λ o. o .machine) (whole w x r _ _ step-lent))
+
 -- a call of `access::lent` with the parts of a record, its counters and its event numbers by any two references: an answer, an
 -- instruction counter, overflow flags, and counters behind the reference at its return, of which the contract holds, as the
--- source states it.
--- The record afterwards has the new counters, the new instruction counter and the new overflow flags; the rest of it stayed with
--- the caller.
+-- source states it
 abbrev pub Call : World → MayGive
 Call m w x r answer after =
     (p : Reference)
     × (q : Reference)
-    × (after ≡ withCounters (after .counters) (withInstructions (after .instructions) (withOvs (after .ovs) r)))
+    × Stayed r after
     × Obeyed
     m
     lent′.ended
@@ -28,18 +52,14 @@ Call m w x r answer after =
     (p .lifetime, (q .lifetime, tt))
     (to p (r .counters), (to q (r .events), (r .settings, (r .level, (r .instructions, (r .ovs, (w, (x, tt))))))))
     (after .counters, (tt, (tt, (tt, (tt, (tt, (tt, (tt, tt))))))))
-    (record { answer = answer; instructions = after .instructions; ovs = after .ovs })
+    (sayingSo answer after)
 
 call-exact : (m : World) → Exact (Call m)
 call-exact m =
     record {
       only = λ w x r answer after c.
-          ∥∥₁-map
-          (said m (Lent (step w x r) _ (after .counters)) (c .3 tt (asked m)))
-          (λ l. let o = whole w x r _ _ l in (ap (λ o. o .answer) o, c .2 ∙ ap (λ o. o .machine) o));
-      may = λ w x r.
-          let l : Lent (step w x r) _ _ = record { answer = refl; instructions = refl; ovs = refl; counters = refl } in
-          (any, any, sym (ap (λ o. o .machine) (whole w x r _ _ l)), λ g s. stated m (Lent (step w x r) _ _) l s);
+          only-step w x r answer after (c .2) (said m (Lent (step w x r) _ (after .counters)) (c .3 tt (asked m)));
+      may = λ w x r. (any, any, step-stayed w x r, λ g s. stated m (Lent (step w x r) _ _) (step-lent w x r) s);
     }
 
 -- the calls of `access::lent` answer and leave what `run` says

@@ -2,3 +2,5 @@
 pub mod Whole
 pub mod Calls
 pub mod LentCalls
+pub mod Decoded
+pub mod DecodedCalls

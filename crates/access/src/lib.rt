@@ -3,12 +3,13 @@
 ghost use mathlib.Core.Path.{_≡_};
 ghost use Rattle.access.specs.Lent.{Lent, Applied};
 ghost use Rattle.machine.specs.Machine.{machineOf};
-ghost use Rattle.rules.specs.Step.{step};
+ghost use Rattle.rules.specs.Step.{step, stepDecoded};
 use answer::Answer;
 use machine::Machine;
 use machine::Outcome;
 use machine::Settings;
 use rules::Decision;
+use rules::Instruction;
 use rules::Place;
 
 // What an access answers, and the instruction counter and the overflow flags after it.
@@ -77,6 +78,26 @@ fn apply(
             }
         }
     }
+}
+
+// The access with instruction i, a word taken apart, and operand x to the record with these parts, its counters lent.
+pub fn lent_decoded(
+    counters: &mut [u64; 31],
+    events: &[u16; 31],
+    s: Settings,
+    level: u8,
+    instructions: u64,
+    ovs: u64,
+    i: Instruction,
+    x: u64,
+) -> Said
+    ensures { λ said. ⌜ Lent
+        (stepDecoded i x (machineOf level s (now (events .entry)) (now (counters .entry)) instructions ovs))
+        said
+        (now (counters .exit)) ⌝ }
+{
+    let d = decide::decide_decoded(state::view_at(level, s, counters, ovs), i, x);
+    apply(d, counters, events, s, instructions, ovs)
 }
 
 // The access with word w and operand x to the record with these parts, its counters lent.

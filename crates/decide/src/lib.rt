@@ -5,7 +5,7 @@ pub mod permitted; // permitted.rt: what a permitted access is to do
 
 ghost use mathlib.Core.Path.{_≡_};
 ghost use Rattle.rules.specs.Traps.{stopOf};
-ghost use Rattle.rules.specs.Step.{undefinedAtOnce, decideRegister, decide};
+ghost use Rattle.rules.specs.Step.{undefinedAtOnce, decideRegister, decideDecoded, decide};
 use answer::Answer;
 use answer::Trap;
 use rules::Decision;
@@ -58,16 +58,22 @@ fn decide_register(v: View, r: Register, i: Instruction, x: u64) -> Decision
     }
 }
 
-// The decision about the access with word w and operand x.
-pub fn decide(v: View, w: u32, x: u64) -> Decision
-    ensures { λ d. ⌜ d ≡ decide v w x ⌝ }
+// The decision about the access with instruction i, a word taken apart, and operand x.
+pub fn decide_decoded(v: View, i: Instruction, x: u64) -> Decision
+    ensures { λ d. ⌜ d ≡ decideDecoded v i x ⌝ }
 {
     match state::verdict_of(v) {
         Verdict::Refused(r) => Decision::Says(Answer::Refused(r)),
         Verdict::Consistent => {
-            let i = word::decode(w);
             let r = i.register;
             decide_register(v, r, i, x)
         }
     }
+}
+
+// The decision about the access with word w and operand x.
+pub fn decide(v: View, w: u32, x: u64) -> Decision
+    ensures { λ d. ⌜ d ≡ decide v w x ⌝ }
+{
+    decide_decoded(v, word::decode(w), x)
 }

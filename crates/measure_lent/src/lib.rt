@@ -8,24 +8,26 @@ ghost use Rattle.measure.specs.Measure.{started, total};
 pub extern "C" fn measure_lent(sets: &[u64], list: &[u64], x: u64) -> u64
     ensures { λ s. ⌜ s ≡ total (now (list .entry)) x (started (now (sets .entry))) ⌝ }
 {
+    let registers = word::table::registers();
     let mut m = measure::start(sets);
     let mut sum: u64 = 0;
-    let mut i = 0;
-    while i < list.len() {
-        let c = list[i];
+    let mut k = 0;
+    while k < list.len() {
+        let c = list[k];
         let level = ((c >> 32) % 4) as u8;
         let events = m.events;
         let settings = m.settings;
         let instructions = m.instructions;
         let ovs = m.ovs;
-        let said = access::lent(
+        let i = word::decode_by(&registers, (c % 0x100000000) as u32);
+        let said = access::lent_decoded(
             &mut m.counters,
             &events,
             settings,
             level,
             instructions,
             ovs,
-            (c % 0x100000000) as u32,
+            i,
             x,
         );
         m.level = level;
@@ -33,7 +35,7 @@ pub extern "C" fn measure_lent(sets: &[u64], list: &[u64], x: u64) -> u64
         m.ovs = said.ovs;
         let a = said.answer;
         sum = std::num::wrapping_add_u64(sum, measure::worth(a));
-        i += 1;
+        k += 1;
     }
     sum
 }

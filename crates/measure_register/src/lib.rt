@@ -20,10 +20,11 @@ fn worth(r: Register) -> u64
 pub extern "C" fn measure_register(list: &[u64]) -> u64
     ensures { λ s. ⌜ s ≡ total (now (list .entry)) ⌝ }
 {
+    let registers = word::table::registers();
     let mut sum: u64 = 0;
     let mut i = 0;
     while i < list.len() {
-        let instruction = word::decode((list[i] % 0x100000000) as u32);
+        let instruction = word::decode_by(&registers, (list[i] % 0x100000000) as u32);
         let r = instruction.register;
         sum = std::num::wrapping_add_u64(sum, worth(r));
         i += 1;

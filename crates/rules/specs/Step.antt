@@ -54,13 +54,21 @@ abbrev pub unlessRefused : Verdict → Decision → Decision
 unlessRefused Consistent d = d
 unlessRefused (Refused r) d = Says (Answer.Refused r)
 
+-- MODEL A2: what the access with instruction i, a word taken apart, and operand x is to do
+abbrev pub decideDecoded : View → Instruction → ℕ → Decision
+decideDecoded v i x = unlessRefused (verdictOf v) (decideRegister v (i .register) i x)
+
 -- MODEL A2: what the access with word w and operand x is to do
 unfoldable pub decide : View → ℕ → ℕ → Decision
-decide v w x = unlessRefused (verdictOf v) (decideRegister v (decode w .register) (decode w) x)
+decide v w x = decideDecoded v (decode w) x
 
 -- MODEL A1: the access with word w and operand x
 unfoldable pub step : ℕ → ℕ → Machine → Outcome
 step w x r = apply (decide (viewOf r) w x) r
+
+-- MODEL A1: the access with an instruction, a word taken apart
+abbrev pub stepDecoded : Instruction → ℕ → Machine → Outcome
+stepDecoded i x r = apply (decideDecoded (viewOf r) i x) r
 
 -- MODEL M1: an access of a list, with its own level
 pub record Access : Type 0 where

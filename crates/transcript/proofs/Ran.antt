@@ -8,7 +8,7 @@ use types.Run.{OneOf, miss}
 use denote.Enum.Declared.{tagOf}
 use Rattle.access.specs.declared.Said.{Said}
 use Rattle.access.specs.Lent.{Lent}
-use Rattle.access.proofs.Whole.{whole}
+use Rattle.access.proofs.Decoded.{whole-by-word}
 use Rattle.answer.specs.declared.Answer.{Answer}
 use Rattle.command.specs.declared.Command.{Command}
 use Rattle.command.specs.Command.{isAccess}
@@ -17,7 +17,9 @@ use Rattle.machine.specs.declared.Machine.{Machine}
 use Rattle.machine.specs.declared.Outcome.{Outcome}
 use Rattle.machine.specs.Machine.{machineOf}
 use Rattle.machine.specs.Outcome.{says}
-use Rattle.rules.specs.Step.{step}
+use Rattle.rules.specs.declared.Instruction.{Instruction}
+use Rattle.rules.specs.Step.{stepDecoded}
+use Rattle.rules.specs.Word.{decode}
 use Rattle.transcript.specs.Session.{execute}
 
 -- every variant but 3, the access
@@ -51,13 +53,14 @@ only-end (Command.Bad e) r t n = absurd (miss (0 ∷ 3 ∷ []) 7 tt t)
 -- the answer and the record after the command c on the record m: of an access, by what was said and the counters that were lent
 module _ (c : Command) (m : Machine) (a : Answer) (next : Machine) where
   pub access-ran :
-      (w x : ℕ) (said : Said) (counters : List ℕ) → c ≡ Command.Access w x → Lent (step w x m) said counters
+      (w x : ℕ) (i : Instruction) (said : Said) (counters : List ℕ) → c ≡ Command.Access w x → i ≡ decode w
+      → Lent (stepDecoded i x m) said counters
       → a ≡ said .answer
       → next ≡ machineOf (m .level) (m .settings) (m .events) counters (said .instructions) (said .ovs)
       → says a next ≡ execute c m
   unfolding execute
-  access-ran w x said counters p l q r =
-      ap₂ says q r ∙ whole w x m said counters l ∙ sym (ap (λ d. execute d m) p)
+  access-ran w x i said counters p e l q r =
+      ap₂ says q r ∙ whole-by-word i w x m e said counters l ∙ sym (ap (λ d. execute d m) p)
 
   -- of another command, by its outcome
   pub other-ran :

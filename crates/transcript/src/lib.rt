@@ -20,6 +20,7 @@ fn write_lines(input: &[u8], out: &mut [u8]) -> usize
     ensures { λ end. ⌜ Written (now (out .entry)) 0 (linesFrom 1 (answersOf (now (input .entry)))) (now (out .exit)) end
         × (end ≤ length (now (out .entry))) ⌝ }
 {
+    let registers = word::table::registers();
     let mut m = machine::fresh::fresh();
     let mut counters = m.counters;
     let mut at: usize = 0;
@@ -33,14 +34,15 @@ fn write_lines(input: &[u8], out: &mut [u8]) -> usize
             Command::Access { word, operand } => {
                 let events = m.events;
                 let settings = m.settings;
-                let said = access::lent(
+                let i = word::decode_by(&registers, word);
+                let said = access::lent_decoded(
                     &mut counters,
                     &events,
                     settings,
                     m.level,
                     m.instructions,
                     m.ovs,
-                    word,
+                    i,
                     operand,
                 );
                 m.instructions = said.instructions;

@@ -1,45 +1,26 @@
 // An instruction word taken apart, once: the register that it names, its direction and Rt, and the syndrome; and what a
 // write stores.
 ghost use mathlib.Core.Path.{_≡_};
-ghost use Rattle.rules.specs.Word.{named, register, syndrome, decode, written};
+ghost use Rattle.rules.specs.Word.{register, syndrome, decode, written};
+ghost use Rattle.word.specs.Codes.{codes};
+
+pub mod table; // table.rt: the table of registers
+
 use rules::Instruction;
 use rules::Register;
 
-// The register by CRn, CRm and op2, of the words with op0 3 and op1 3.
-fn named(crn: u8, crm: u8, op2: u8) -> Register
-    ensures { λ r. ⌜ r ≡ named crn crm op2 ⌝ }
-{
-    match crn {
-        14 => match crm {
-            8..=11 => Register::Pmevcntr(8 * (crm % 4) as u64 + op2 as u64),
-            _ => Register::Other,
-        },
-        9 => match crm {
-            12 => match op2 {
-                4 => Register::Pmswinc,
-                _ => Register::Other,
-            },
-            4 => match op2 {
-                0 => Register::Pmicntr,
-                _ => Register::Other,
-            },
-            _ => Register::Other,
-        },
-        _ => Register::Other,
-    }
-}
-
-// The register that a word names: `Other` for every word that names none of the three.
-fn register(w: u32) -> Register
+// The register that a word names, by the table: `Other` for every word that names none of the three.
+fn register(registers: &[u8; 256], w: u32) -> Register
+    requires { ⌜ now registers ≡ codes ⌝ }
     ensures { λ r. ⌜ r ≡ register w ⌝ }
 {
     let is_move = ((w >> 22) % 1024 == 0x354) & ((w >> 20) % 2 == 1);
-    if is_move & ((w >> 19) % 2 + 2 == 3) & ((w >> 16) % 8 == 3) {
-        return named(
-            ((w >> 12) % 16) as u8,
-            ((w >> 8) % 16) as u8,
-            ((w >> 5) % 8) as u8,
-        );
+    if is_move & ((w >> 19) % 2 + 2 == 3) {
+        let crn = (w >> 12) % 16;
+        if (crn == 9) | (crn == 14) {
+            let code = registers[((w >> 5) % 256) as usize];
+            return table::coded(code, ((w >> 16) % 8) as u8);
+        }
     }
     Register::Other
 }
@@ -59,17 +40,26 @@ fn syndrome(w: u32) -> u32
         + (w >> 21) % 2
 }
 
-// A word taken apart.
-pub fn decode(w: u32) -> Instruction
+// A word taken apart, with the table of registers lent.
+pub fn decode_by(registers: &[u8; 256], w: u32) -> Instruction
+    requires { ⌜ now registers ≡ codes ⌝ }
     ensures { λ i. ⌜ i ≡ decode w ⌝ }
 {
-    let register = register(w);
+    let register = register(registers, w);
     Instruction {
         register: register,
         read: (w >> 21) % 2 == 1,
         rt: (w % 32) as u8,
         syndrome: syndrome(w),
     }
+}
+
+// A word taken apart.
+pub fn decode(w: u32) -> Instruction
+    ensures { λ i. ⌜ i ≡ decode w ⌝ }
+{
+    let registers = table::registers();
+    decode_by(&registers, w)
 }
 
 // What a write stores: with Rt 31 the operand is 0.

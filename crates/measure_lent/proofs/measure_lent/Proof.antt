@@ -5,22 +5,22 @@ use native.Mathlib.Omega.{arith}
 use borrow.Author.Needs.{needs}
 use lib.ListN.{length, getD}
 use Rattle.machine.specs.Machine.{withLevel}
-use Rattle.access.proofs.Whole.{whole}
+use Rattle.access.proofs.Decoded.{whole-by-word}
 use Rattle.measure.specs.Measure.{started, total}
 use Rattle.measure.proofs.Total.{summed, summed-all, summed-next, summed-done}
 use Rattle.measure_lent.proofs.measure_lent.Statement.{statement}
 use Rattle.measure_lent.proofs.measure_lent.Tie as tie
 
 abbrev Inv-loop : tie.InvT-loop
-Inv-loop sets list x m₀ sum₀ i₀ m sum i =
-    (i ≤ length list) × (sum < 2 ^ 64) × (summed list x i sum m ≡ total list x (started sets))
+Inv-loop sets list x registers m₀ sum₀ k₀ m sum k =
+    (k ≤ length list) × (sum < 2 ^ 64) × (summed list x k sum m ≡ total list x (started sets))
 
 abbrev μ-loop : tie.MeasureT-loop
-μ-loop sets list x m₀ sum₀ i₀ m sum i = length list - i
+μ-loop sets list x registers m₀ sum₀ k₀ m sum k = length list - k
 
 loop-holds : tie.Need-loop-holds Inv-loop μ-loop
 loop-holds c =
-    let at-start = c .before .before .before in (
+    let at-start = c .before .before .before .before in (
       omega arith,
       omega arith,
       summed-all (at-start .args .list .now) (at-start .args .x) (c .start .result)
@@ -36,27 +36,37 @@ shared-slice-read-c c = omega arith
 cast-level : tie.Need-cast-level Inv-loop μ-loop
 cast-level c = omega arith
 
-cast-lent : tie.Need-cast-lent Inv-loop μ-loop
-cast-lent c = omega arith
+cast-decode-by : tie.Need-cast-decode-by Inv-loop μ-loop
+cast-decode-by c = omega arith
 
-add-i : tie.Need-add-i Inv-loop μ-loop
-add-i c = omega arith
+decode-by-requires : tie.Need-decode-by-requires Inv-loop μ-loop
+decode-by-requires c κs =
+    let at-registers = c .before .before .before .before .before .before .before in
+    at-registers .registers .ensures
+
+add-k : tie.Need-add-k Inv-loop μ-loop
+add-k c =
+    let at-loop = c .before .before .before .before .before .before .before .before .before .before .before in
+    let at-start = at-loop .before .before .before .before .before in
+    omega (arith, at-start .good)
 
 loop-less : tie.Need-loop-less Inv-loop μ-loop
 loop-less c = omega arith
 
 loop-again : tie.Need-loop-again Inv-loop μ-loop
 loop-again c =
-    let at-lent = c .before .before in
-    let at-loop-test = at-lent .before .before .before .before .before .before in
+    let at-lent-decoded = c .before .before in
+    let at-decode-by = at-lent-decoded .before .before .before in
+    let at-loop-test = at-decode-by .before .before .before .before .before in
     let at-loop = at-loop-test .before in
-    let at-start = c .before .before .before .before .before .before .before .before .before .before .before .before .before in (
+    let at-start = at-loop .before .before .before .before .before in
+    let before = withLevel (getD (at-start .args .list .now) (at-loop .loop .k) 0 / 2 ^ 32 % 4) (at-loop .loop .m) in (
       omega arith,
       omega (arith, c .wrapping-add-u64 .ensures),
       summed-next (at-start .args .list .now) (at-start .args .x) (at-loop .loop .m) (at-loop .loop .sum)
           (at-loop-test .loop-test .taken)
-          (whole _ _ (withLevel (getD (at-start .args .list .now) (at-loop .loop .i) 0 / 2 ^ 32 % 4) (at-loop .loop .m))
-          (at-lent .lent .result) _ (at-lent .lent .ensures))
+          (whole-by-word _ _ _ before (at-decode-by .decode-by .ensures) (at-lent-decoded .lent-decoded .result) _
+          (at-lent-decoded .lent-decoded .ensures))
           (c .wrapping-add-u64 .ensures ∙ ap (λ (n : ℕ). (at-loop .loop .sum + n) % 2 ^ 64) (c .before .worth .ensures))
           ∙ at-loop .loop .inv .2,
     )
@@ -64,9 +74,9 @@ loop-again c =
 returns : tie.Need-returns Inv-loop μ-loop
 returns c =
     let at-loop = c .before in
-    let at-start = at-loop .before .before .before .before in
-    sym
-    (summed-done (at-start .args .list .now) (at-start .args .x) (at-loop .loop .m) (c .loop-test .left) (at-loop .loop .inv .1))
+    let at-start = at-loop .before .before .before .before .before in
+    let args = at-start .args in
+    sym (summed-done (args .list .now) (args .x) (at-loop .loop .m) (c .loop-test .left) (at-loop .loop .inv .1))
     ∙ at-loop .loop .inv .2
 
 pub measure-lent-spec : {M : Type 1} → statement M
@@ -76,15 +86,17 @@ measure-lent-spec =
     Inv-loop
     μ-loop
     (λ c κs. tt)
+    (λ c κs. tt)
     loop-holds
     mul-c
     shared-slice-read-c
     cast-level
-    cast-lent
+    cast-decode-by
+    decode-by-requires
     (λ c κs. tt)
     (λ c κs. tt)
     (λ c κs. tt)
-    add-i
+    add-k
     loop-less
     loop-again
     returns)

@@ -17,15 +17,15 @@ use Rattle.transcript.proofs.write_lines.Statement.{statement}
 use Rattle.transcript.proofs.write_lines.Tie as tie
 
 abbrev Inv-loop : tie.InvT-loop
-Inv-loop input out₀ m₀ counters₀ at₀ end₀ position₀ out m counters at end position =
+Inv-loop input out₀ registers m₀ counters₀ at₀ end₀ position₀ out m counters at end position =
     Running input out₀ out (withCounters counters m) at end position
 
 abbrev μ-loop : tie.MeasureT-loop
-μ-loop input out₀ m₀ counters₀ at₀ end₀ position₀ out m counters at end position = length input - at
+μ-loop input out₀ registers m₀ counters₀ at₀ end₀ position₀ out m counters at end position = length input - at
 
 loop-holds : tie.Need-loop-holds Inv-loop μ-loop
 loop-holds c =
-    let at-start = c .before .before .before .before in
+    let at-start = c .before .before .before .before .before in
     running-start (c .before .fresh .ensures) (at-start .pre .0) (at-start .pre .1)
 
 sub-command-of : tie.Need-sub-command-of Inv-loop μ-loop
@@ -45,6 +45,11 @@ part-size-at-start c = omega (arith, c .before .before .loop .inv .within)
 
 part-size-at-end : tie.Need-part-size-at-end Inv-loop μ-loop
 part-size-at-end c = omega (arith, c .before .before .loop .inv .within)
+
+decode-by-requires : tie.Need-decode-by-requires Inv-loop μ-loop
+decode-by-requires c κs =
+    let at-loop = c .before .before .before .before .before .before .before .before .before .before in
+    at-loop .before .before .before .registers .ensures
 
 other-requires : tie.Need-other-requires Inv-loop μ-loop
 other-requires c κs =
@@ -72,13 +77,14 @@ returns c =
     let at-command-of = at-size-at .before .before in
     let at-loop = at-command-of .before .before in
     let same =
-    ⊎-elim {C = at-match .match .c ≡ at-command-of .command-of .result} (λ w. w .10 ∙ sym (w .1 .given .1)) (λ v. v .6)
+    ⊎-elim {C = at-match .match .c ≡ at-command-of .command-of .result} (λ w. w .12 ∙ sym (w .1 .given .1)) (λ v. v .6)
     (at-match .match .came) in
     let m = withCounters (at-loop .loop .counters) (at-loop .loop .m) in
     let ran =
     ⊎-elim {C =
     says (at-match .match .a) (withCounters (at-match .match .counters) (at-match .match .m)) ≡ execute (at-match .match .c) m}
-    (λ w. access-ran _ m _ _ _ _ (w .7 .result) _ (w .10) (w .7 .ensures) (w .11) (ap₂ withCounters (w .9) (w .8)))
+    (λ w.
+    access-ran _ m _ _ _ _ _ (w .9 .result) _ (w .12) (w .6 .ensures) (w .9 .ensures) (w .13) (ap₂ withCounters (w .11) (w .10)))
     (λ v. other-ran _ m _ _ _ (v .1 .result) (v .6) (v .1 .ensures) (v .7) (ap₂ withCounters (v .5) (v .4)))
     (at-match .match .came) in (
       turn-end (at-loop .loop .inv) (same ∙ at-command-of .command-of .ensures) (at-size-at .size-at .ensures)
@@ -94,13 +100,14 @@ loop-again c =
     let at-command-of = at-size-at .before .before in
     let at-loop = at-command-of .before .before in
     let same =
-    ⊎-elim {C = at-match .match .c ≡ at-command-of .command-of .result} (λ w. w .10 ∙ sym (w .1 .given .1)) (λ v. v .6)
+    ⊎-elim {C = at-match .match .c ≡ at-command-of .command-of .result} (λ w. w .12 ∙ sym (w .1 .given .1)) (λ v. v .6)
     (at-match .match .came) in
     let m = withCounters (at-loop .loop .counters) (at-loop .loop .m) in
     let ran =
     ⊎-elim {C =
     says (at-match .match .a) (withCounters (at-match .match .counters) (at-match .match .m)) ≡ execute (at-match .match .c) m}
-    (λ w. access-ran _ m _ _ _ _ (w .7 .result) _ (w .10) (w .7 .ensures) (w .11) (ap₂ withCounters (w .9) (w .8)))
+    (λ w.
+    access-ran _ m _ _ _ _ _ (w .9 .result) _ (w .12) (w .6 .ensures) (w .9 .ensures) (w .13) (ap₂ withCounters (w .11) (w .10)))
     (λ v. other-ran _ m _ _ _ (v .1 .result) (v .6) (v .1 .ensures) (v .7) (ap₂ withCounters (v .5) (v .4)))
     (at-match .match .came) in
     turn-on (at-loop .loop .inv) (same ∙ at-command-of .command-of .ensures) (at-size-at .size-at .ensures)
@@ -113,7 +120,7 @@ loop-less c =
     let at-command-of = at-size-at .before .before in
     let at-loop = at-command-of .before .before in
     let same =
-    ⊎-elim {C = at-match .match .c ≡ at-command-of .command-of .result} (λ w. w .10 ∙ sym (w .1 .given .1)) (λ v. v .6)
+    ⊎-elim {C = at-match .match .c ≡ at-command-of .command-of .result} (λ w. w .12 ∙ sym (w .1 .given .1)) (λ v. v .6)
     (at-match .match .came) in
     omega (
       arith,
@@ -136,6 +143,7 @@ write-lines-spec =
     (tie.spec
     Inv-loop
     μ-loop
+    (λ c κs. tt)
     (λ c κs. search needs)
     loop-holds
     sub-command-of
@@ -147,6 +155,7 @@ write-lines-spec =
     part-size-at-end
     (λ c κs. search needs)
     (λ c. search needs)
+    decode-by-requires
     (λ c κs. search needs)
     other-requires
     line-requires

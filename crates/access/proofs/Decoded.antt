@@ -1,0 +1,33 @@
+-- The access by an instruction is the access by each word that, taken apart, is that instruction.
+use Prim.Native.Nat.{ℕ}
+use mathlib.Core.List.{List}
+use mathlib.Core.Path.{_≡_, subst, subst⁻¹, ap}
+use Rattle.machine.specs.declared.Machine.{Machine}
+use Rattle.machine.specs.declared.Outcome.{Outcome}
+use Rattle.machine.specs.Machine.{machineOf}
+use Rattle.machine.specs.Outcome.{says}
+use Rattle.rules.specs.declared.Instruction.{Instruction}
+use Rattle.rules.specs.Word.{decode}
+use Rattle.rules.specs.Step.{decide, step, stepDecoded}
+use Rattle.access.specs.declared.Said.{Said}
+use Rattle.access.specs.Lent.{Lent}
+use Rattle.access.proofs.Whole.{whole}
+
+module _ (i : Instruction) (w x : ℕ) (r : Machine) (e : i ≡ decode w) where
+  by-word : stepDecoded i x r ≡ step w x r
+  unfolding step decide
+  by-word = ap (λ (j : Instruction). stepDecoded j x r) e
+
+  module _ (said : Said) (after : List ℕ) where
+    pub lent-by-word : Lent (stepDecoded i x r) said after → Lent (step w x r) said after
+    lent-by-word = subst (λ (o : Outcome). Lent o said after) by-word
+
+    pub lent-decoded : Lent (step w x r) said after → Lent (stepDecoded i x r) said after
+    lent-decoded = subst⁻¹ (λ (o : Outcome). Lent o said after) by-word
+
+    -- the parts put together again
+    pub whole-by-word :
+        Lent (stepDecoded i x r) said after
+        → says (said .answer) (machineOf (r .level) (r .settings) (r .events) after (said .instructions) (said .ovs))
+        ≡ step w x r
+    whole-by-word l = whole w x r said after (lent-by-word l)

@@ -1,0 +1,3 @@
+-- What is proved of the table of registers.
+pub mod Tabulate
+pub mod Codes

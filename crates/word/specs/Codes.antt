@@ -1,0 +1,57 @@
+-- The table of registers: the place of a word in it, the code at each place, and the register that a code stands for. What a
+-- word names is said by `register` of rules/specs/Word.antt; this is how the code of this crate finds it.
+use Prim.Native.Nat.{ℕ, zero, suc, _+_, _*_, _/_, _%_}
+use mathlib.Core.Bool.{cond}
+use mathlib.Core.List.{List, [], _∷_}
+use lib.Dec.{leb, eqb}
+use Rattle.bits.specs.Bits.{bit, bits}
+use Rattle.rules.specs.Word.{named}
+use Rattle.rules.specs.declared.Register.{Register}
+use Rattle.rules.specs.declared.Register.the-variants.{Pmevcntr, Pmswinc, Pmicntr, Other}
+
+-- MODEL W10: the place of a word: the lowest bit of CRn, then CRm, then op2
+abbrev pub placeOf : ℕ → ℕ
+placeOf w = bits 12 5 w
+
+-- MODEL W10: the CRn of the words with this place, which have CRn 9 or 14
+abbrev pub crnAt : ℕ → ℕ
+crnAt k = cond (bit 7 k) 9 14
+
+-- MODEL W11: the op1 of a register's words
+abbrev pub op1Of : Register → ℕ
+op1Of (Pmevcntr m) = 3
+op1Of Pmswinc = 3
+op1Of Pmicntr = 3
+op1Of Other = 0
+
+-- MODEL W11: the number of a register in its code
+abbrev pub numberOf : Register → ℕ
+numberOf (Pmevcntr m) = 32 + m
+numberOf Pmswinc = 1
+numberOf Pmicntr = 2
+numberOf Other = 0
+
+-- MODEL W11: the code of a register: op1 in bits 7:6, and the number below
+abbrev pub codeOf : Register → ℕ
+codeOf r = op1Of r * 64 + numberOf r
+
+-- MODEL W10: the code at a place: that of the register which CRn, CRm and op2 name
+unfoldable pub codeAt : ℕ → ℕ
+codeAt k = codeOf (named (crnAt k) (k / 8 % 16) (k % 8))
+
+-- MODEL W10: f at n places, from place k on
+abbrev pub tabulate : (ℕ → ℕ) → ℕ → ℕ → List ℕ
+tabulate f zero k = []
+tabulate f (suc n) k = f k ∷ tabulate f n (suc k)
+
+-- MODEL W10: the table: the codes at its 256 places
+unfoldable pub codes : List ℕ
+codes = tabulate codeAt 256 0
+
+-- MODEL W11: the register with a number
+abbrev pub numbered : ℕ → Register
+numbered n = cond (leb 32 n) (Pmevcntr (n % 32)) (cond (eqb n 1) Pmswinc (cond (eqb n 2) Pmicntr Other))
+
+-- MODEL W11: the register that a code stands for in words with op1 o
+unfoldable pub coded : ℕ → ℕ → Register
+coded c o = cond (eqb o (c / 64)) (numbered (c % 64)) Other

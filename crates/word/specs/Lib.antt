@@ -1,0 +1,2 @@
+-- The table of registers.
+pub mod Codes
