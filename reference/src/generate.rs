@@ -527,9 +527,22 @@ impl Writer {
         }
     }
 
-    /// A word that differs a little from one of ours.
+    /// A word with CRn 9 or 14, any CRm and op2, and every other time any op1.
+    fn beside(&mut self, read: bool, rt: u32) -> u32 {
+        let crn = self.rng.pick(&[9, 14]);
+        let chosen = word(read, crn, self.rng.below(16) as u32, self.rng.below(8) as u32, rt);
+        if self.rng.chance(50) {
+            return chosen;
+        }
+        chosen & !(7 << 16) | (self.rng.below(8) as u32) << 16
+    }
+
+    /// A word that differs a little from one of ours, or has CRn 9 or 14.
     fn neighbour(&mut self, rt: u32) -> u32 {
         let read = self.rng.chance(50);
+        if self.rng.chance(50) {
+            return self.beside(read, rt);
+        }
         let m = self.rng.below(32) as u32;
         let ours = match self.rng.below(3) {
             0 => counter_word(read, m, rt),

@@ -1,4 +1,4 @@
-//! MODEL W1 to W9 and U1 to U5: the words of the three registers, those beside
+//! MODEL W1 to W11 and U1 to U5: the words of the three registers, those beside
 //! them, Rt, the accesses that are undefined at once, and the syndrome.
 
 use super::fields::*;
@@ -53,14 +53,20 @@ fn neighbours_session(word: u32, given: &[Change]) -> Vec<u8> {
     script.finish_all()
 }
 
-/// Every CRm and op2 with a CRn; trapped, so that the syndrome shows too.
-fn crn_session(read: bool, crn: u32) -> Vec<u8> {
+/// The word with another op1.
+fn with_op1(word: u32, op1: u32) -> u32 {
+    word & !(7 << 16) | op1 << 16
+}
+
+/// Every CRm and op2 with an op1 and a CRn; trapped, so that the syndrome shows
+/// too.
+fn crn_session(read: bool, op1: u32, crn: u32) -> Vec<u8> {
     let mut script = Script::new(&GIVEN);
     script.put(&RUNNING);
     script.put(&[TRAPPED]);
     for crm in 0..16 {
         for op2 in 0..8 {
-            script.access(word(read, crn, crm, op2, crm + op2), 1);
+            script.access(with_op1(word(read, crn, crm, op2, crm + op2), op1), 1);
         }
     }
     script.finish()
@@ -77,7 +83,7 @@ fn prefix_session(read: bool) -> Vec<u8> {
         }
         let ours = word(read, crn, crm, op2, 5);
         for op1 in 0..8 {
-            script.access(ours & !(7 << 16) | op1 << 16, 1);
+            script.access(with_op1(ours, op1), 1);
         }
         script.access(ours & !(1 << 19), 1);
     }
@@ -196,8 +202,10 @@ pub fn sessions() -> Vec<Session> {
     }
     for (direction, read) in [("read", true), ("write", false)] {
         for crn in [9, 14] {
-            let bytes = crn_session(read, crn);
+            let bytes = crn_session(read, 3, crn);
             list.push(Session::new(format!("words-crn-{crn}-{direction}"), bytes));
+            let bytes = crn_session(read, 0, crn);
+            list.push(Session::new(format!("words-op1-0-crn-{crn}-{direction}"), bytes));
         }
         list.push(Session::new(format!("words-op0-op1-crn-{direction}"), prefix_session(read)));
         list.push(Session::new(format!("words-rt-{direction}"), rt_session(read)));
