@@ -13,7 +13,7 @@ use Rattle.rules.specs.declared.Register.the-variants.{Pmevcntr, Pmswinc, Pmicn
 use Rattle.word.specs.Codes.{placeOf, crnAt, codeOf, codeAt, coded}
 
 -- a choice between no register and none
-pub neither : (b : Bool) → cond b Other Other ≡ Other
+neither : (b : Bool) → cond b Other Other ≡ Other
 neither true = refl
 neither false = refl
 

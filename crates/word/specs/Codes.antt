@@ -1,13 +1,17 @@
 -- The table of registers: the place of a word in it, the code at each place, and the register that a code stands for. What a
 -- word names is said by `register` of rules/specs/Word.antt; this is how the code of this crate finds it.
 use Prim.Native.Nat.{ℕ, zero, suc, _+_, _*_, _/_, _%_}
-use mathlib.Core.Bool.{cond}
+use mathlib.Core.Bool.{Bool, cond, _&&_, _||_}
 use mathlib.Core.List.{List, [], _∷_}
 use lib.Dec.{leb, eqb}
 use Rattle.bits.specs.Bits.{bit, bits}
-use Rattle.rules.specs.Word.{named}
+use Rattle.rules.specs.Word.{isMrsMsr, op0, crn, named}
 use Rattle.rules.specs.declared.Register.{Register}
 use Rattle.rules.specs.declared.Register.the-variants.{Pmevcntr, Pmswinc, Pmicntr, Other}
+
+-- MODEL W10: the word has a place in the table
+abbrev pub hasPlace : ℕ → Bool
+hasPlace w = isMrsMsr w && eqb (op0 w) 3 && (eqb (crn w) 9 || eqb (crn w) 14)
 
 -- MODEL W10: the place of a word: the lowest bit of CRn, then CRm, then op2
 abbrev pub placeOf : ℕ → ℕ

@@ -1,26 +1,51 @@
 // An instruction word taken apart, once: the register that it names, its direction and Rt, and the syndrome; and what a
 // write stores.
 ghost use mathlib.Core.Path.{_≡_};
-ghost use Rattle.rules.specs.Word.{register, syndrome, decode, written};
-ghost use Rattle.word.specs.Codes.{codes};
+ghost use Rattle.rules.specs.Word.{isRead, rt, register, syndrome, decode, written};
+ghost use Rattle.word.specs.Codes.{hasPlace, placeOf, codes};
 
 pub mod table; // table.rt: the table of registers
 
 use rules::Instruction;
 use rules::Register;
 
-// The register that a word names, by the table: `Other` for every word that names none of the three.
-fn register(registers: &[u8; 256], w: u32) -> Register
-    requires { ⌜ now registers ≡ codes ⌝ }
-    ensures { λ r. ⌜ r ≡ register w ⌝ }
+// The word has a place in the table of registers: it moves a system register, with op0 3 and CRn 9 or 14.
+fn has_place(w: u32) -> bool
+    ensures { λ b. ⌜ b ≡ hasPlace w ⌝ }
 {
     let is_move = ((w >> 22) % 1024 == 0x354) & ((w >> 20) % 2 == 1);
     if is_move & ((w >> 19) % 2 + 2 == 3) {
         let crn = (w >> 12) % 16;
-        if (crn == 9) | (crn == 14) {
-            let code = registers[((w >> 5) % 256) as usize];
-            return table::coded(code, ((w >> 16) % 8) as u8);
-        }
+        return (crn == 9) | (crn == 14);
+    }
+    false
+}
+
+// The place of a word in the table: the lowest bit of CRn, then CRm, then op2.
+fn place(w: u32) -> u8
+    ensures { λ k. ⌜ k ≡ placeOf w ⌝ }
+{
+    ((w >> 5) % 256) as u8
+}
+
+// The register that a word names: `Other` for every word that names none of the three.
+fn register(w: u32) -> Register
+    ensures { λ r. ⌜ r ≡ register w ⌝ }
+{
+    if has_place(w) {
+        return table::coded(table::code(place(w)), ((w >> 16) % 8) as u8);
+    }
+    Register::Other
+}
+
+// The same, with the table lent.
+fn register_by(registers: &[u8; 256], w: u32) -> Register
+    requires { ⌜ now registers ≡ codes ⌝ }
+    ensures { λ r. ⌜ r ≡ register w ⌝ }
+{
+    if has_place(w) {
+        let code = registers[place(w) as usize];
+        return table::coded(code, ((w >> 16) % 8) as u8);
     }
     Register::Other
 }
@@ -40,12 +65,10 @@ fn syndrome(w: u32) -> u32
         + (w >> 21) % 2
 }
 
-// A word taken apart, with the table of registers lent.
-pub fn decode_by(registers: &[u8; 256], w: u32) -> Instruction
-    requires { ⌜ now registers ≡ codes ⌝ }
-    ensures { λ i. ⌜ i ≡ decode w ⌝ }
+// A word taken apart, where its register is found.
+fn with_register(register: Register, w: u32) -> Instruction
+    ensures { λ i. ⌜ i ≡ record { register = register; read = isRead w; rt = rt w; syndrome = syndrome w } ⌝ }
 {
-    let register = register(registers, w);
     Instruction {
         register: register,
         read: (w >> 21) % 2 == 1,
@@ -58,8 +81,15 @@ pub fn decode_by(registers: &[u8; 256], w: u32) -> Instruction
 pub fn decode(w: u32) -> Instruction
     ensures { λ i. ⌜ i ≡ decode w ⌝ }
 {
-    let registers = table::registers();
-    decode_by(&registers, w)
+    with_register(register(w), w)
+}
+
+// The same, with the table of registers lent: for who takes many words apart, and makes it once.
+pub fn decode_by(registers: &[u8; 256], w: u32) -> Instruction
+    requires { ⌜ now registers ≡ codes ⌝ }
+    ensures { λ i. ⌜ i ≡ decode w ⌝ }
+{
+    with_register(register_by(registers, w), w)
 }
 
 // What a write stores: with Rt 31 the operand is 0.

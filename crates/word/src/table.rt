@@ -1,7 +1,7 @@
 // The table of registers: a code for each place, which is CRn's lowest bit (0 for 14, 1 for 9), CRm and op2. A code has op1 in
 // bits 7:6 and the register's number in bits 5:0: 32 + m for event counter m, 1 for PMSWINC, 2 for PMICNTR. 0 is no register.
 ghost use mathlib.Core.Path.{_≡_};
-ghost use Rattle.word.specs.Codes.{codes, coded};
+ghost use Rattle.word.specs.Codes.{codeAt, codes, coded};
 use rules::Register;
 
 const REGISTERS: [u8; 256] = [
@@ -295,11 +295,19 @@ const REGISTERS: [u8; 256] = [
     0,
 ];
 
-// The table, made: whoever asks about many words makes it once and lends it for each.
+// The whole table.
 pub fn registers() -> [u8; 256]
     ensures { λ t. ⌜ t ≡ codes ⌝ }
 {
     REGISTERS
+}
+
+// The code at a place.
+pub fn code(place: u8) -> u8
+    ensures { λ c. ⌜ c ≡ codeAt place ⌝ }
+{
+    let registers = registers();
+    registers[place as usize]
 }
 
 // The register that a code stands for in words with this op1.

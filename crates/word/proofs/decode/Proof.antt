@@ -1,12 +1,11 @@
--- `decode` meets its contract: the table that it lends is the one that `decode_by` asks for.
+-- `decode` meets its contract: its register, and the rest of the word.
+use Rattle.rules.specs.Word.{decode}
 use Rattle.word.proofs.decode.Statement.{statement}
 use Rattle.word.proofs.decode.Tie as tie
 
-decode-by-requires : tie.Need-decode-by-requires
-decode-by-requires c κs = c .before .registers .ensures
-
 returns : tie.Need-returns
-returns c = c .decode-by .ensures
+unfolding decode
+returns c = simp (c .with-register .ensures, c .before .register .ensures)
 
 pub decode-spec : {M : Type 1} → statement M
-decode-spec = tie.close (tie.spec (λ c κs. tt) decode-by-requires returns)
+decode-spec = tie.close (tie.spec (λ c κs. tt) (λ c κs. tt) returns)
