@@ -5,7 +5,7 @@ use mathlib.Core.Logic.{∥∥₁-map}
 use mathlib.Core.Path.{refl}
 use borrow.Fn.World.{World}
 use Rattle.rules.specs.Word.{decode}
-use Rattle.rules.specs.Step.{step, stepDecoded}
+use Rattle.rules.specs.Step.{stepDecoded}
 use Rattle.access.specs.Calls.{Obeyed, Reference, to, MayGive, CallsRun, CallsNoninterference}
 use Rattle.access.specs.Lent.{Lent}
 use Rattle.access.proofs.Calls.{asked, said, stated, any, Exact, exact-calls-run, exact-noninterference}

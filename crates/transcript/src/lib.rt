@@ -15,6 +15,7 @@ pub const ROOM: usize = 65600;
 
 // Writes the lines of a session that is not too long, from the fresh record on. The record is a local, and its counters are
 // one of their own: an access has them lent, and every other command takes and returns the whole record by value.
+// The table of registers is made once, and lent for each word.
 fn write_lines(input: &[u8], out: &mut [u8]) -> usize
     requires { ⌜ (length (now input) ≤ longest) × (room ≤ length (now out)) ⌝ }
     ensures { λ end. ⌜ Written (now (out .entry)) 0 (linesFrom 1 (answersOf (now (input .entry)))) (now (out .exit)) end

@@ -1,5 +1,4 @@
 -- `table::code` meets its contract: what stands at a place of the table is the code of the place.
-use native.Mathlib.Omega.{arith}
 use borrow.Author.Needs.{needs}
 use Rattle.word.specs.Codes.{codeAt, codes}
 use Rattle.word.proofs.Tabulate.{at}
