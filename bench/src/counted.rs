@@ -5,7 +5,7 @@ use std::hint::black_box;
 use std::time::Instant;
 
 /// Entries in a list: as many again are in the second list of a count.
-pub const LIST: usize = 1024;
+const LIST: usize = 1024;
 
 /// What the loops of a row are given; the list is as long as asked for.
 pub trait Row {
@@ -44,7 +44,7 @@ pub fn instructions(totals: &[u64]) -> Vec<f64> {
 
 /// Nanoseconds an entry, for each loop: the fastest of several runs, the loops
 /// in turn, so that what else the machine does meets all of them. They must
-/// agree on the sum. The list is long, so that no processor learns it by heart.
+/// agree on the sum. The list is too long for a branch predictor to memorize.
 pub fn nanoseconds(row: &impl Row, loops: &[Loop]) -> Result<Vec<f64>, String> {
     let (sets, list) = (row.sets(), row.list(32 * LIST));
     let sums: Vec<u64> = loops.iter().map(|run| run(&sets, &list, row.operand())).collect();

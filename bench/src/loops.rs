@@ -9,7 +9,7 @@
 
 use reference::model::{Answer, Machine, Move, Register};
 
-/// Sets, accesses, and every access's operand.
+/// Sets, a list of accesses or words, and every access's operand.
 pub type Loop = fn(&[u64], &[u64], u64) -> u64;
 
 pub const ACCESSES: [Loop; 4] = [by_value, lent, in_place, reference];

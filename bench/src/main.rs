@@ -1,6 +1,6 @@
 //! Measurements of the proved model beside the reference, in one process:
 //! `bench count` runs each row twice, for callgrind to count; `bench report
-//! TOTALS` times each row and prints the table, with the counts that were
+//! TOTALS` times each row and prints the tables, with the counts that were
 //! taken; `bench memory PROGRAM` prints what a program holds resident at most.
 //! `bench/run` does all three.
 

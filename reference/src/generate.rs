@@ -477,6 +477,11 @@ pub fn word(read: bool, crn: u32, crm: u32, op2: u32, rt: u32) -> u32 {
     base | crn << 12 | crm << 8 | op2 << 5 | rt
 }
 
+/// The same word with another op1.
+pub fn with_op1(word: u32, op1: u32) -> u32 {
+    word & !(7 << 16) | op1 << 16
+}
+
 /// The word of a counter access.
 pub fn counter_word(read: bool, m: u32, rt: u32) -> u32 {
     word(read, 14, 8 + m / 8, m % 8, rt)
@@ -534,7 +539,7 @@ impl Writer {
         if self.rng.chance(50) {
             return chosen;
         }
-        chosen & !(7 << 16) | (self.rng.below(8) as u32) << 16
+        with_op1(chosen, self.rng.below(8) as u32)
     }
 
     /// A word that differs a little from one of ours, or has CRn 9 or 14.

@@ -7,9 +7,9 @@ use borrow.Fn.World.{World}
 use Rattle.rules.specs.Word.{decode}
 use Rattle.rules.specs.Step.{stepDecoded}
 use Rattle.access.specs.Calls.{Obeyed, Reference, to, MayGive, CallsRun, CallsNoninterference}
-use Rattle.access.specs.Lent.{Lent}
+use Rattle.access.specs.Lent.{Lent, Stayed, sayingSo}
 use Rattle.access.proofs.Calls.{asked, said, stated, any, Exact, exact-calls-run, exact-noninterference}
-use Rattle.access.proofs.LentCalls.{Stayed, sayingSo, only-step, step-lent, step-stayed}
+use Rattle.access.proofs.LentCalls.{only-step, step-lent, step-stayed}
 use Rattle.access.proofs.Decoded.{lent-by-word, lent-decoded}
 use Rattle.access.proofs.lent_decoded as decoded′
 

@@ -1,28 +1,18 @@
 -- Noninterference of `access::lent`, as specs/Calls.antt states it, by the induction in Calls.antt. All that is known of a call
 -- is the contract of `access::lent`, as the check takes it from the source: were it weaker, `call-exact` would be refused.
+-- DecodedCalls.antt uses the laws on what is said and what stays.
 use Prim.Native.Nat.{ℕ}
 use mathlib.Core.Logic.{∥∥₁-map}
 use mathlib.Core.Path.{_≡_, refl, sym, _∙_, ap}
 use borrow.Fn.World.{World}
 use Rattle.answer.specs.declared.Answer.{Answer}
 use Rattle.machine.specs.declared.Machine.{Machine}
-use Rattle.machine.specs.Machine.{withCounters, withInstructions, withOvs}
 use Rattle.rules.specs.Step.{step}
 use Rattle.access.specs.Calls.{Obeyed, Reference, to, MayGive, CallsRun, CallsNoninterference}
-use Rattle.access.specs.declared.Said.{Said}
-use Rattle.access.specs.Lent.{Lent}
+use Rattle.access.specs.Lent.{Lent, Stayed, sayingSo}
 use Rattle.access.proofs.Calls.{asked, said, stated, any, OfStep, Exact, exact-calls-run, exact-noninterference}
 use Rattle.access.proofs.Whole.{whole}
 use Rattle.access.proofs.lent as lent′
-
--- the record afterwards has the counters that the call left, its instruction counter and its overflow flags; the rest of it
--- stayed with the caller
-abbrev pub Stayed : Machine → Machine → Type 0
-Stayed r after = after ≡ withCounters (after .counters) (withInstructions (after .instructions) (withOvs (after .ovs) r))
-
--- what a call says, where it answers so and leaves such a record
-abbrev pub sayingSo : Answer → Machine → Said
-sayingSo answer after = record { answer = answer; instructions = after .instructions; ovs = after .ovs }
 
 module _ (w x : ℕ) (r : Machine) where
   pub only-step :

@@ -2,9 +2,11 @@
 use Prim.Native.Nat.{ℕ}
 use mathlib.Core.List.{List}
 use mathlib.Core.Path.{_≡_}
+use Rattle.answer.specs.declared.Answer.{Answer}
+use Rattle.machine.specs.declared.Machine.{Machine}
 use Rattle.machine.specs.declared.Outcome.{Outcome}
 use Rattle.machine.specs.declared.Settings.{Settings}
-use Rattle.machine.specs.Machine.{machineOf}
+use Rattle.machine.specs.Machine.{machineOf, withCounters, withInstructions, withOvs}
 use Rattle.rules.specs.declared.Decision.{Decision}
 use Rattle.rules.specs.Apply.{apply}
 use Rattle.access.specs.declared.Said.{Said}
@@ -21,3 +23,12 @@ pub record Lent (o : Outcome) (said : Said) (after : List ℕ) : Type 0 where
 -- flags, whatever its level
 abbrev pub Applied : Decision → Settings → List ℕ → List ℕ → ℕ → ℕ → Said → List ℕ → Type 0
 Applied d s e c i ovs said after = (l : ℕ) → Lent (apply d (machineOf l s e c i ovs)) said after
+
+-- MODEL X4: the record after a call has the counters that it left, and its instruction counter and overflow flags; the rest of it
+-- stayed with the caller
+abbrev pub Stayed : Machine → Machine → Type 0
+Stayed r after = after ≡ withCounters (after .counters) (withInstructions (after .instructions) (withOvs (after .ovs) r))
+
+-- MODEL X4: what is said where this is the answer, and this the record after the call
+abbrev pub sayingSo : Answer → Machine → Said
+sayingSo answer after = record { answer = answer; instructions = after .instructions; ovs = after .ovs }

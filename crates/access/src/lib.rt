@@ -1,5 +1,5 @@
 // The access: decide, by a view in which there is no counter, then apply. `lent` has the counters of a record lent and changed
-// there; `step` takes and returns a record by value.
+// there, and `lent_decoded` so of a word that is taken apart already; `step` takes and returns a record by value.
 ghost use mathlib.Core.Path.{_≡_};
 ghost use Rattle.access.specs.Lent.{Lent, Applied};
 ghost use Rattle.machine.specs.Machine.{machineOf};

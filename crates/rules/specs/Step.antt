@@ -54,7 +54,7 @@ abbrev pub unlessRefused : Verdict → Decision → Decision
 unlessRefused Consistent d = d
 unlessRefused (Refused r) d = Says (Answer.Refused r)
 
--- MODEL A2: what the access with instruction i, a word taken apart, and operand x is to do
+-- MODEL A2 and X4: what the access with instruction i, a word taken apart, and operand x is to do
 abbrev pub decideDecoded : View → Instruction → ℕ → Decision
 decideDecoded v i x = unlessRefused (verdictOf v) (decideRegister v (i .register) i x)
 
@@ -66,7 +66,7 @@ decide v w x = decideDecoded v (decode w) x
 unfoldable pub step : ℕ → ℕ → Machine → Outcome
 step w x r = apply (decide (viewOf r) w x) r
 
--- MODEL A1: the access with an instruction, a word taken apart
+-- MODEL A1 and X4: the access with an instruction, a word taken apart
 abbrev pub stepDecoded : Instruction → ℕ → Machine → Outcome
 stepDecoded i x r = apply (decideDecoded (viewOf r) i x) r
 

@@ -12,7 +12,7 @@ use Rattle.rules.specs.declared.Register.{Register}
 use Rattle.rules.specs.declared.Register.the-variants.{Pmevcntr, Pmswinc, Pmicntr, Other}
 use Rattle.word.specs.Codes.{placeOf, crnAt, codeOf, codeAt, coded}
 
--- a choice between no register and none
+-- a choice between `Other` and `Other`
 neither : (b : Bool) → cond b Other Other ≡ Other
 neither true = refl
 neither false = refl

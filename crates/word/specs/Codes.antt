@@ -17,18 +17,18 @@ hasPlace w = isMrsMsr w && eqb (op0 w) 3 && (eqb (crn w) 9 || eqb (crn w) 14)
 abbrev pub placeOf : ℕ → ℕ
 placeOf w = bits 12 5 w
 
--- MODEL W10: the CRn of the words with this place, which have CRn 9 or 14
+-- MODEL W10: the CRn, 9 or 14, of the words that have this place
 abbrev pub crnAt : ℕ → ℕ
 crnAt k = cond (bit 7 k) 9 14
 
--- MODEL W11: the op1 of a register's words
+-- MODEL W10 and W11: the op1 of a register's words, 0 for none
 abbrev pub op1Of : Register → ℕ
 op1Of (Pmevcntr m) = 3
 op1Of Pmswinc = 3
 op1Of Pmicntr = 3
 op1Of Other = 0
 
--- MODEL W11: the number of a register in its code
+-- MODEL W10 and W11: the number of a register in its code, 0 for none
 abbrev pub numberOf : Register → ℕ
 numberOf (Pmevcntr m) = 32 + m
 numberOf Pmswinc = 1

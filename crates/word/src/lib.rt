@@ -65,7 +65,7 @@ fn syndrome(w: u32) -> u32
         + (w >> 21) % 2
 }
 
-// A word taken apart, where its register is found.
+// A word taken apart, given its register.
 fn with_register(register: Register, w: u32) -> Instruction
     ensures { λ i. ⌜ i ≡ record { register = register; read = isRead w; rt = rt w; syndrome = syndrome w } ⌝ }
 {
@@ -84,7 +84,7 @@ pub fn decode(w: u32) -> Instruction
     with_register(register(w), w)
 }
 
-// The same, with the table of registers lent: for who takes many words apart, and makes it once.
+// The same, with the table of registers lent: for a caller that takes many words apart and makes the table once.
 pub fn decode_by(registers: &[u8; 256], w: u32) -> Instruction
     requires { ⌜ now registers ≡ codes ⌝ }
     ensures { λ i. ⌜ i ≡ decode w ⌝ }

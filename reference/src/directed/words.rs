@@ -1,10 +1,10 @@
-//! MODEL W1 to W11 and U1 to U5: the words of the three registers, those beside
+//! MODEL W1 to W9 and U1 to U5: the words of the three registers, those beside
 //! them, Rt, the accesses that are undefined at once, and the syndrome.
 
 use super::fields::*;
 use super::script::{Change, Script, RUNNING};
 use super::Session;
-use crate::generate::{counter_word, word};
+use crate::generate::{counter_word, with_op1, word};
 
 /// All 31 counters, all registers present, no rule applies at level 1.
 const GIVEN: [Change; 8] = [
@@ -51,11 +51,6 @@ fn neighbours_session(word: u32, given: &[Change]) -> Vec<u8> {
         script.access(word ^ 1 << bit, 0x5501 + bit);
     }
     script.finish_all()
-}
-
-/// The word with another op1.
-fn with_op1(word: u32, op1: u32) -> u32 {
-    word & !(7 << 16) | op1 << 16
 }
 
 /// Every CRm and op2 with an op1 and a CRn; trapped, so that the syndrome shows
