@@ -1,6 +1,6 @@
 // A list of accesses run in a loop by the step with the counters lent, the record one local of the loop and the table of
-// registers made before it, as in a session, so that bench/ can count and time it: the loop of `measure`, in a library of its own,
-// so that each step has one caller.
+// registers made before it, as in a session, so that bench/ can count and time it. The loop is that of `measure`, in a
+// library of its own, so that each step has one caller.
 ghost use mathlib.Core.Path.{_≡_};
 ghost use Rattle.measure.specs.Measure.{started, total};
 
