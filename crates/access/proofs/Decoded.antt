@@ -28,6 +28,6 @@ module _ (i : Instruction) (w x : ℕ) (r : Machine) (e : i ≡ decode w) where
     -- the parts put together again
     pub whole-by-word :
         Lent (stepDecoded i x r) said after
-        → says (said .answer) (machineOf (r .level) (r .settings) (r .events) after (said .instructions) (said .ovs))
+        → says (said .answer) (machineOf (r .level) (r .settings) (r .events) after (said .values))
         ≡ step w x r
     whole-by-word l = whole w x r said after (lent-by-word l)

@@ -24,8 +24,8 @@ Call m w x r answer after =
     decoded′.ended
     (decoded′.clauses (m .𝓤) (m .H) (m .𝓖 .A) (m .𝓜 .mem) (m .𝓡 .run))
     (p .lifetime, (q .lifetime, tt))
-    (to p (r .counters), (to q (r .events), (r .settings, (r .level, (r .instructions, (r .ovs, (decode w, (x, tt))))))))
-    (after .counters, (tt, (tt, (tt, (tt, (tt, (tt, (tt, tt))))))))
+    (to p (r .counters), (to q (r .events), (r .settings, (r .level, (r .values, (decode w, (x, tt)))))))
+    (after .counters, (tt, (tt, (tt, (tt, (tt, (tt, tt)))))))
     (sayingSo answer after)
 
 call-exact : (m : World) → Exact (Call m)

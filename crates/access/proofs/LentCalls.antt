@@ -22,14 +22,13 @@ module _ (w x : ℕ) (r : Machine) where
       ∥∥₁-map s (λ l. let o = whole w x r _ _ l in (ap (λ o. o .answer) o, stayed ∙ ap (λ o. o .machine) o))
 
   pub step-lent : Lent (step w x r) (sayingSo (step w x r .answer) (step w x r .machine)) (step w x r .machine .counters)
-  step-lent = record { answer = refl; instructions = refl; ovs = refl; counters = refl }
+  step-lent = record { answer = refl; values = refl; counters = refl }
 
   pub step-stayed : Stayed r (step w x r .machine)
   step-stayed = sym (ap (λ o. o .machine) (whole w x r _ _ step-lent))
 
--- a call of `access::lent` with the parts of a record, its counters and its event numbers by any two references: an answer, an
--- instruction counter, overflow flags, and counters behind the reference at its return, of which the contract holds, as the
--- source states it
+-- a call of `access::lent` with the parts of a record, its counters and its event numbers by any two references: an answer,
+-- values, and counters behind the reference at its return, of which the contract holds, as the source states it
 abbrev pub Call : World → MayGive
 Call m w x r answer after =
     (p : Reference)
@@ -40,8 +39,8 @@ Call m w x r answer after =
     lent′.ended
     (lent′.clauses (m .𝓤) (m .H) (m .𝓖 .A) (m .𝓜 .mem) (m .𝓡 .run))
     (p .lifetime, (q .lifetime, tt))
-    (to p (r .counters), (to q (r .events), (r .settings, (r .level, (r .instructions, (r .ovs, (w, (x, tt))))))))
-    (after .counters, (tt, (tt, (tt, (tt, (tt, (tt, (tt, tt))))))))
+    (to p (r .counters), (to q (r .events), (r .settings, (r .level, (r .values, (w, (x, tt)))))))
+    (after .counters, (tt, (tt, (tt, (tt, (tt, (tt, tt)))))))
     (sayingSo answer after)
 
 call-exact : (m : World) → Exact (Call m)

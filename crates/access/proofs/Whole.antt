@@ -13,8 +13,8 @@ use Rattle.access.specs.Lent.{Lent}
 
 pub whole :
     (w x : ℕ) (r : Machine) (said : Said) (after : List ℕ) → Lent (step w x r) said after
-    → says (said .answer) (machineOf (r .level) (r .settings) (r .events) after (said .instructions) (said .ovs)) ≡ step w x r
+    → says (said .answer) (machineOf (r .level) (r .settings) (r .events) after (said .values)) ≡ step w x r
 unfolding step
 whole w x r said after l =
-    (λ i. says (l .answer i) (machineOf (r .level) (r .settings) (r .events) (l .counters i) (l .instructions i) (l .ovs i)))
+    (λ i. says (l .answer i) (machineOf (r .level) (r .settings) (r .events) (l .counters i) (l .values i)))
     ∙ ap (says (step w x r .answer)) (sym (rest-stays (decide (viewOf r) w x) r))

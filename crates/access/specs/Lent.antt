@@ -6,7 +6,8 @@ use Rattle.answer.specs.declared.Answer.{Answer}
 use Rattle.machine.specs.declared.Machine.{Machine}
 use Rattle.machine.specs.declared.Outcome.{Outcome}
 use Rattle.machine.specs.declared.Settings.{Settings}
-use Rattle.machine.specs.Machine.{machineOf, withCounters, withInstructions, withOvs}
+use Rattle.machine.specs.declared.Values.{Values}
+use Rattle.machine.specs.Machine.{machineOf, withCounters, withValues}
 use Rattle.rules.specs.declared.Decision.{Decision}
 use Rattle.rules.specs.Apply.{apply}
 use Rattle.access.specs.declared.Said.{Said}
@@ -15,20 +16,17 @@ use Rattle.access.specs.declared.Said.{Said}
 -- caller
 pub record Lent (o : Outcome) (said : Said) (after : List ℕ) : Type 0 where
   pub answer : said .answer ≡ o .answer
-  pub instructions : said .instructions ≡ o .machine .instructions
-  pub ovs : said .ovs ≡ o .machine .ovs
+  pub values : said .values ≡ o .machine .values
   pub counters : after ≡ o .machine .counters
 
--- MODEL X4: a decision applied to the record with these settings, event numbers, counters, instruction counter and overflow
--- flags, whatever its level
-abbrev pub Applied : Decision → Settings → List ℕ → List ℕ → ℕ → ℕ → Said → List ℕ → Type 0
-Applied d s e c i ovs said after = (l : ℕ) → Lent (apply d (machineOf l s e c i ovs)) said after
+-- MODEL X4: a decision applied to the record with these settings, event numbers, counters and values, whatever its level
+abbrev pub Applied : Decision → Settings → List ℕ → List ℕ → Values → Said → List ℕ → Type 0
+Applied d s e c v said after = (l : ℕ) → Lent (apply d (machineOf l s e c v)) said after
 
--- MODEL X4: the record after a call has the counters that it left, and its instruction counter and overflow flags; the rest of it
--- stayed with the caller
+-- MODEL X4: the record after a call has the counters that it left, and its values; the rest of it stayed with the caller
 abbrev pub Stayed : Machine → Machine → Type 0
-Stayed r after = after ≡ withCounters (after .counters) (withInstructions (after .instructions) (withOvs (after .ovs) r))
+Stayed r after = after ≡ withCounters (after .counters) (withValues (after .values) r)
 
 -- MODEL X4: what is said where this is the answer, and this the record after the call
 abbrev pub sayingSo : Answer → Machine → Said
-sayingSo answer after = record { answer = answer; instructions = after .instructions; ovs = after .ovs }
+sayingSo answer after = record { answer = answer; values = after .values }

@@ -8,33 +8,25 @@ use answer::Answer;
 use machine::Machine;
 use machine::Outcome;
 use machine::Settings;
+use machine::Values;
 use rules::Decision;
 use rules::Instruction;
 use rules::Place;
 
-// What an access answers, and the instruction counter and the overflow flags after it.
+// What an access answers, and what the record holds after it beside the event counters.
 pub struct Said {
     pub answer: Answer,
-    pub instructions: u64,
-    pub ovs: u64,
+    pub values: Values,
 }
 
 // What was decided, done to the counters that are lent. The level plays no part.
-fn apply(
-    d: Decision,
-    counters: &mut [u64],
-    events: &[u16],
-    s: Settings,
-    instructions: u64,
-    ovs: u64,
-) -> Said
-    ensures { λ said. ⌜ Applied d s (now (events .entry)) (now (counters .entry)) instructions ovs said (now (counters .exit)) ⌝ }
+fn apply(d: Decision, counters: &mut [u64], events: &[u16], s: Settings, v: Values) -> Said
+    ensures { λ said. ⌜ Applied d s (now (events .entry)) (now (counters .entry)) v said (now (counters .exit)) ⌝ }
 {
     match d {
         Decision::Says(a) => Said {
             answer: a,
-            instructions: instructions,
-            ovs: ovs,
+            values: v,
         },
         Decision::Read { place, rt } => match place {
             Place::Counter(m) => Said {
@@ -42,16 +34,14 @@ fn apply(
                     value: counters::read(counters, m),
                     rt: rt,
                 },
-                instructions: instructions,
-                ovs: ovs,
+                values: v,
             },
             Place::Instructions => Said {
                 answer: Answer::Mrs {
-                    value: instructions,
+                    value: v.instructions,
                     rt: rt,
                 },
-                instructions: instructions,
-                ovs: ovs,
+                values: v,
             },
         },
         Decision::Write { place, value } => match place {
@@ -59,22 +49,24 @@ fn apply(
                 counters::store(counters, s.features.p5, m, value);
                 Said {
                     answer: Answer::Ok,
-                    instructions: instructions,
-                    ovs: ovs,
+                    values: v,
                 }
             }
-            Place::Instructions => Said {
-                answer: Answer::Ok,
-                instructions: value,
-                ovs: ovs,
-            },
+            Place::Instructions => {
+                let mut values = v;
+                values.instructions = value;
+                Said {
+                    answer: Answer::Ok,
+                    values: values,
+                }
+            }
         },
         Decision::Add { mask } => {
-            let flags = counters::increment(counters, events, s, mask, ovs);
+            let mut values = v;
+            values.ovs = counters::increment(counters, events, s, mask, v.ovs);
             Said {
                 answer: Answer::Ok,
-                instructions: instructions,
-                ovs: flags,
+                values: values,
             }
         }
     }
@@ -86,18 +78,17 @@ pub fn lent_decoded(
     events: &[u16; 31],
     s: Settings,
     level: u8,
-    instructions: u64,
-    ovs: u64,
+    v: Values,
     i: Instruction,
     x: u64,
 ) -> Said
     ensures { λ said. ⌜ Lent
-        (stepDecoded i x (machineOf level s (now (events .entry)) (now (counters .entry)) instructions ovs))
+        (stepDecoded i x (machineOf level s (now (events .entry)) (now (counters .entry)) v))
         said
         (now (counters .exit)) ⌝ }
 {
-    let d = decide::decide_decoded(state::view_at(level, s, counters, ovs), i, x);
-    apply(d, counters, events, s, instructions, ovs)
+    let d = decide::decide_decoded(state::view_at(level, s, counters, v.ovs), i, x);
+    apply(d, counters, events, s, v)
 }
 
 // The access with word w and operand x to the record with these parts, its counters lent.
@@ -106,18 +97,17 @@ pub fn lent(
     events: &[u16; 31],
     s: Settings,
     level: u8,
-    instructions: u64,
-    ovs: u64,
+    v: Values,
     w: u32,
     x: u64,
 ) -> Said
     ensures { λ said. ⌜ Lent
-        (step w x (machineOf level s (now (events .entry)) (now (counters .entry)) instructions ovs))
+        (step w x (machineOf level s (now (events .entry)) (now (counters .entry)) v))
         said
         (now (counters .exit)) ⌝ }
 {
-    let d = decide::decide(state::view_at(level, s, counters, ovs), w, x);
-    apply(d, counters, events, s, instructions, ovs)
+    let d = decide::decide(state::view_at(level, s, counters, v.ovs), w, x);
+    apply(d, counters, events, s, v)
 }
 
 // The same access to a record by value.
@@ -127,21 +117,11 @@ pub fn step(w: u32, x: u64, mut r: Machine) -> Outcome
     let events = r.events;
     let settings = r.settings;
     let level = r.level;
-    let instructions = r.instructions;
-    let ovs = r.ovs;
-    let said = lent(
-        &mut r.counters,
-        &events,
-        settings,
-        level,
-        instructions,
-        ovs,
-        w,
-        x,
-    );
+    let values = r.values;
+    let said = lent(&mut r.counters, &events, settings, level, values, w, x);
     let answer = said.answer;
-    r.instructions = said.instructions;
-    r.ovs = said.ovs;
+    let after = said.values;
+    r.values = after;
     Outcome {
         answer: answer,
         machine: r,

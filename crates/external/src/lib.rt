@@ -114,27 +114,33 @@ fn enact(e: Effect, mut r: Machine) -> Outcome
         Effect::ReadOvs => {
             let settings = r.settings;
             Outcome {
-                answer: Answer::Value(flags::shown_of(false, settings, r.ovs)),
+                answer: Answer::Value(flags::shown_of(false, settings, r.values.ovs)),
                 machine: r,
             }
         }
         Effect::ClearOvs { mask } => {
-            r.ovs = flags::lowered(mask, r.ovs);
+            let mut values = r.values;
+            values.ovs = flags::lowered(mask, values.ovs);
+            r.values = values;
             Outcome {
                 answer: Answer::Ok,
                 machine: r,
             }
         }
         Effect::SetOvs { mask } => {
-            r.ovs = flags::raised(mask, r.ovs);
+            let mut values = r.values;
+            values.ovs = flags::raised(mask, values.ovs);
+            r.values = values;
             Outcome {
                 answer: Answer::Ok,
                 machine: r,
             }
         }
         Effect::Count => {
-            r.ovs = ovs_counted(r.instructions, r.ovs);
-            r.instructions = std::num::wrapping_add_u64(r.instructions, 1);
+            let mut values = r.values;
+            values.ovs = ovs_counted(values.instructions, values.ovs);
+            values.instructions = std::num::wrapping_add_u64(values.instructions, 1);
+            r.values = values;
             Outcome {
                 answer: Answer::Ok,
                 machine: r,

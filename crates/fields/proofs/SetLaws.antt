@@ -14,7 +14,7 @@ use Rattle.answer.specs.declared.Refusal.the-variants.{UnknownField, ValueTooLa
 use Rattle.machine.specs.declared.Machine.{Machine}
 use Rattle.fields.specs.Largest.{largest, exceeds, largestLevel}
 use Rattle.machine.specs.Machine.{withLevel}
-use Rattle.store.specs.Store.{store, storeSettings, storeList}
+use Rattle.store.specs.Store.{store, storeSettings, storeList, storeValues}
 use Rattle.fields.specs.Set.{set, setLevel}
 use Rattle.machine.specs.Outcome.{refused, done}
 
@@ -66,8 +66,7 @@ module _ (f v : ℕ) (m : Machine) where
         settings = storeSettings f v (m .settings);
         events = storeList 0x40 f (v % 65536) (m .events);
         counters = storeList 0x60 f v (m .counters);
-        instructions = cond (eqb f 0x7F) v (m .instructions);
-        ovs = cond (eqb f 0x37) v (m .ovs);
+        values = storeValues f v (m .values);
       })
       ≡ set f v m
   unfolding store

@@ -28,13 +28,13 @@ pub fn set(f: u8, v: u64, m: Machine) -> Outcome
     let settings = m.settings;
     let events = m.events;
     let counters = m.counters;
+    let values = m.values;
     let machine = Machine {
         level: m.level,
         settings: store::settings(settings, f, v),
         events: store::events(events, f, v),
         counters: store::counters(counters, f, v),
-        instructions: bits::pick(f == 0x7F, v, m.instructions),
-        ovs: bits::pick(f == 0x37, v, m.ovs),
+        values: store::values(values, f, v),
     };
     Outcome {
         answer: Answer::Ok,

@@ -5,6 +5,7 @@ use mathlib.Core.List.{List}
 use lib.ListN.{replicate}
 use Rattle.machine.specs.declared.Features.{Features}
 use Rattle.machine.specs.declared.Settings.{Settings}
+use Rattle.machine.specs.declared.Values.{Values}
 use Rattle.machine.specs.declared.Machine.{Machine}
 
 -- MODEL F2 and F18: what the processor implements, in the fresh record
@@ -45,6 +46,10 @@ freshSettings =
       external = record { powered = false; doublelock = false; oslock = false; allowed = false; softwarelock = false };
     }
 
+-- MODEL F16, F18 and F22: the values of the fresh record beside the event counters
+abbrev pub freshValues : Values
+freshValues = record { instructions = 0; ovs = 0 }
+
 -- MODEL F18: the fresh record, in which all is 0
 abbrev pub fresh : Machine
 fresh =
@@ -53,58 +58,29 @@ fresh =
       settings = freshSettings;
       events = replicate 31 0;
       counters = replicate 31 0;
-      instructions = 0;
-      ovs = 0;
+      values = freshValues;
     }
 
 -- MODEL F1: the record with these parts
-abbrev pub machineOf : ℕ → Settings → List ℕ → List ℕ → ℕ → ℕ → Machine
-machineOf l s e c i o = record { level = l; settings = s; events = e; counters = c; instructions = i; ovs = o }
+abbrev pub machineOf : ℕ → Settings → List ℕ → List ℕ → Values → Machine
+machineOf l s e c v = record { level = l; settings = s; events = e; counters = c; values = v }
 
 -- MODEL F17 and F20: the record with its level put to l
 abbrev pub withLevel : ℕ → Machine → Machine
-withLevel l m =
-    record {
-      level = l;
-      settings = m .settings;
-      events = m .events;
-      counters = m .counters;
-      instructions = m .instructions;
-      ovs = m .ovs;
-    }
+withLevel l m = machineOf l (m .settings) (m .events) (m .counters) (m .values)
 
 -- MODEL F15: the record with these event counters
 abbrev pub withCounters : List ℕ → Machine → Machine
-withCounters c m =
-    record {
-      level = m .level;
-      settings = m .settings;
-      events = m .events;
-      counters = c;
-      instructions = m .instructions;
-      ovs = m .ovs;
-    }
+withCounters c m = machineOf (m .level) (m .settings) (m .events) c (m .values)
+
+-- MODEL F16 and F22: the record with these values beside the event counters
+abbrev pub withValues : Values → Machine → Machine
+withValues v m = machineOf (m .level) (m .settings) (m .events) (m .counters) v
 
 -- MODEL F16: the record with this instruction counter
 abbrev pub withInstructions : ℕ → Machine → Machine
-withInstructions i m =
-    record {
-      level = m .level;
-      settings = m .settings;
-      events = m .events;
-      counters = m .counters;
-      instructions = i;
-      ovs = m .ovs;
-    }
+withInstructions i m = withValues (record { instructions = i; ovs = m .values .ovs }) m
 
 -- MODEL F22: the record with these overflow flags
 abbrev pub withOvs : ℕ → Machine → Machine
-withOvs o m =
-    record {
-      level = m .level;
-      settings = m .settings;
-      events = m .events;
-      counters = m .counters;
-      instructions = m .instructions;
-      ovs = o;
-    }
+withOvs o m = withValues (record { instructions = m .values .instructions; ovs = o }) m

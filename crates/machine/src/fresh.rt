@@ -27,7 +27,6 @@ pub fn fresh() -> Machine
         },
         events: [0u16; 31],
         counters: [0u64; 31],
-        instructions: 0,
-        ovs: 0,
+        values: crate::FRESH_VALUES,
     }
 }

@@ -196,15 +196,26 @@ pub struct Settings {
     pub cnten: u64,
 }
 
+// What accesses, from inside and outside, and ticks change beside the event counters: PMICNTR_EL0, and the overflow flags of
+// PMOVSSET_EL0 and PMOVSCLR_EL0.
+pub struct Values {
+    pub instructions: u64,
+    pub ovs: u64,
+}
+
+pub const FRESH_VALUES: Values = Values {
+    instructions: 0,
+    ovs: 0,
+};
+
 // The machine record: the settings, the event number of each event counter, the exception level, the value of each event
-// counter, PMICNTR_EL0, and the overflow flags of PMOVSSET_EL0 and PMOVSCLR_EL0.
+// counter, and the other values that accesses and ticks change.
 pub struct Machine {
     pub settings: Settings,
     pub events: [u16; 31],
     pub level: u8,
     pub counters: [u64; 31],
-    pub instructions: u64,
-    pub ovs: u64,
+    pub values: Values,
 }
 
 // What a command answers, and the record after it.

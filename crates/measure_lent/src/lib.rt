@@ -18,22 +18,12 @@ pub extern "C" fn measure_lent(sets: &[u64], list: &[u64], x: u64) -> u64
         let level = ((c >> 32) % 4) as u8;
         let events = m.events;
         let settings = m.settings;
-        let instructions = m.instructions;
-        let ovs = m.ovs;
+        let values = m.values;
         let i = word::decode_by(&registers, (c % 0x100000000) as u32);
-        let said = access::lent_decoded(
-            &mut m.counters,
-            &events,
-            settings,
-            level,
-            instructions,
-            ovs,
-            i,
-            x,
-        );
+        let said = access::lent_decoded(&mut m.counters, &events, settings, level, values, i, x);
         m.level = level;
-        m.instructions = said.instructions;
-        m.ovs = said.ovs;
+        let after = said.values;
+        m.values = after;
         let a = said.answer;
         sum = std::num::wrapping_add_u64(sum, measure::worth(a));
         k += 1;

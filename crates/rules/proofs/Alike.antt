@@ -1,11 +1,10 @@
--- One decision on two records that are alike but for named counters, which the decision does not touch: the answers are equal,
--- the records stay alike, and each keeps its named counters.
+-- One decision on two records that are alike but for named places, which the decision does not touch: the answers are equal,
+-- the records stay alike, and each keeps what is named.
 use Prim.Native.Nat.{ℕ}
 use mathlib.Core.Bool.{Bool, true, false, and-false}
 use mathlib.Core.Path.{_≡_, refl, sym, _∙_, ap}
 use native.Mathlib.Omega.{arith}
-use borrow.Author.Tests.{eq-eqb, ltb-true, ltb-false}
-use lib.Dec.{ltb}
+use borrow.Author.Tests.{eq-eqb, leb-true, leb-false}
 use lib.ListN.{getD, length, List·getD-eq-default}
 use Rattle.answer.specs.declared.Answer.{Answer}
 use Rattle.machine.specs.declared.Machine.{Machine}
@@ -18,8 +17,10 @@ use Rattle.rules.specs.declared.Place.{Place}
 use Rattle.rules.specs.declared.Place.the-variants.{Counter, Instructions}
 use Rattle.rules.specs.Overflow.{raised}
 use Rattle.rules.specs.Apply.{overflows, valueAt, apply}
-use Rattle.rules.specs.Isolation.{Named, SameExcept, Kept}
+use Rattle.rules.specs.Isolation.{Named, isPlace, samePlace, SameExcept, Kept}
 use Rattle.rules.proofs.Applied.{
+  Has,
+  put-ovs,
   level-stays,
   settings-stay,
   events-stay,
@@ -30,27 +31,22 @@ use Rattle.rules.proofs.Applied.{
   effect,
 }
 use Rattle.rules.proofs.Flags.{raised-ext}
-use Rattle.rules.proofs.Touches.{samePlace, touches}
+use Rattle.rules.proofs.Touches.{touches}
 
 -- a record with 31 counters that refusal 15 does not meet
 pub record Sound (r : Machine) : Type 0 where
   pub sized : length (r .counters) ≡ 31
   pub narrow : viewOf r .wide ≡ false
 
--- two such records, equal but for the counters named
+-- two such records, equal but for the places named
 pub record Alike (x : Named) (r₁ r₂ : Machine) : Type 0 where
   pub same : SameExcept x r₁ r₂
   pub sound₁ : Sound r₁
   pub sound₂ : Sound r₂
 
--- the place is named
-abbrev pub namedAt : Named → Place → Bool
-namedAt x (Counter m) = x .counter m
-namedAt x Instructions = x .instructions
-
 -- the decision touches no place that is named
 abbrev pub Hides : Named → Decision → Type 0
-Hides x d = (p : Place) → namedAt x p ≡ true → touches p d ≡ false
+Hides x d = (p : Place) → x p ≡ true → touches p d ≡ false
 
 pub sound-stays : (d : Decision) {r : Machine} → Sound r → Sound (apply d r .machine)
 sound-stays d {r} s = record { sized = length-stays d r ∙ s .sized; narrow = wide-stays d r (s .narrow) }
@@ -67,16 +63,25 @@ view-alike a =
       ovslarge = exceeds (a .same .ovs i) 0x37;
     }
 
+-- a place that the record has
+has : {r : Machine} → Sound r → (p : Place) → isPlace p ≡ true → Has r p
+has s (Counter m) e = omega (arith, leb-true m 30 e, s .sized)
+has s Instructions e = tt
+
+-- past the 31 counters nothing is held
+past : {r₁ r₂ : Machine} → Sound r₁ → Sound r₂ → (p : Place) → isPlace p ≡ false → valueAt p r₁ ≡ valueAt p r₂
+past {r₁} {r₂} s t (Counter m) e =
+    List·getD-eq-default (r₁ .counters) 0 (omega (arith, leb-false m 30 e, s .sized))
+    ∙ sym (List·getD-eq-default (r₂ .counters) 0 (omega (arith, leb-false m 30 e, t .sized)))
+past s t Instructions e = cc
+
 -- a place that is not named, also past the 31 counters
-not-named : {x : Named} {r₁ r₂ : Machine} → Alike x r₁ r₂ → (p : Place) → namedAt x p ≡ false → valueAt p r₁ ≡ valueAt p r₂
-not-named a Instructions n = a .same .instructions n
-not-named {x} {r₁} {r₂} a (Counter i) n = go (ltb i 31) refl
+not-named : {x : Named} {r₁ r₂ : Machine} → Alike x r₁ r₂ → (p : Place) → x p ≡ false → valueAt p r₁ ≡ valueAt p r₂
+not-named {x} {r₁} {r₂} a p n = go (isPlace p) refl
   where
-    go : (b : Bool) → ltb i 31 ≡ b → getD (r₁ .counters) i 0 ≡ getD (r₂ .counters) i 0
-    go true e = a .same .counters i (omega (arith, ltb-true i 31 e)) n
-    go false e =
-        List·getD-eq-default (r₁ .counters) 0 (omega (arith, ltb-false i 31 e, a .sound₁ .sized))
-        ∙ sym (List·getD-eq-default (r₂ .counters) 0 (omega (arith, ltb-false i 31 e, a .sound₂ .sized)))
+    go : (b : Bool) → isPlace p ≡ b → valueAt p r₁ ≡ valueAt p r₂
+    go true e = a .same .places p e n
+    go false e = past (a .sound₁) (a .sound₂) p e
 
 -- what a decision reads is not named
 unnamed : (b : Bool) {c : Bool} → (b ≡ true → c ≡ false) → c ≡ true → b ≡ false
@@ -92,7 +97,7 @@ module _ (x : Named) (r₁ r₂ : Machine) (a : Alike x r₁ r₂) where
   unfolding apply
   answers-alike (Says b) h = refl
   answers-alike (Read p rt) h =
-      ap (λ y. Answer.Mrs y rt) (not-named a p (unnamed (namedAt x p) (h p) (same-self p)))
+      ap (λ y. Answer.Mrs y rt) (not-named a p (unnamed (x p) (h p) (same-self p)))
   answers-alike (Write p y) h = refl
   answers-alike (Add mask) h = refl
 
@@ -110,16 +115,15 @@ module _ (x : Named) (r₁ r₂ : Machine) (a : Alike x r₁ r₂) where
           ≡ overflows (r₂ .settings) (r₂ .events) mask m (getD (r₂ .counters) m 0)
       go true e =
           ap (overflows (r₂ .settings) (r₂ .events) mask m)
-          (not-named a (Counter m) (unnamed (namedAt x (Counter m)) (h (Counter m)) e))
+          (not-named a (Counter m) (unnamed (x (Counter m)) (h (Counter m)) e))
       go false e = rw (e, and-false)
 
-  ovs-alike : (d : Decision) → Hides x d → apply d r₁ .machine .ovs ≡ apply d r₂ .machine .ovs
+  ovs-alike : (d : Decision) → Hides x d → apply d r₁ .machine .values .ovs ≡ apply d r₂ .machine .values .ovs
   unfolding apply
   ovs-alike (Says b) h = a .same .ovs
   ovs-alike (Read p rt) h = a .same .ovs
-  ovs-alike (Write (Counter m) y) h = a .same .ovs
-  ovs-alike (Write Instructions y) h = a .same .ovs
-  ovs-alike (Add mask) h = ap (raised _) (a .same .ovs) ∙ raised-ext _ (r₂ .ovs) _ (λ m l. carried-alike mask h m)
+  ovs-alike (Write p y) h = put-ovs _ r₁ p ∙ a .same .ovs ∙ sym (put-ovs _ r₂ p)
+  ovs-alike (Add mask) h = ap (raised _) (a .same .ovs) ∙ raised-ext _ (r₂ .values .ovs) _ (λ m l. carried-alike mask h m)
 
   pub stays-alike : (d : Decision) → Hides x d → Alike x (apply d r₁ .machine) (apply d r₂ .machine)
   stays-alike d h =
@@ -129,33 +133,17 @@ module _ (x : Named) (r₁ r₂ : Machine) (a : Alike x r₁ r₂) where
               level = level-stays d r₁ ∙ a .same .level ∙ sym (level-stays d r₂);
               settings = settings-stay d r₁ ∙ a .same .settings ∙ sym (settings-stay d r₂);
               events = events-stay d r₁ ∙ a .same .events ∙ sym (events-stay d r₂);
-              counters =
-                  λ m le n.
-                  value-after d r₁ (Counter m) (omega (arith, a .sound₁ .sized))
-                  ∙ (λ i.
-                  effect (a .same .settings i .features .p5) (a .same .events i) d (Counter m) (a .same .counters m le n i))
-                  ∙ sym (value-after d r₂ (Counter m) (omega (arith, a .sound₂ .sized)));
-              instructions =
-                  λ n.
-                  value-after d r₁ Instructions tt
-                  ∙ (λ i.
-                  effect (a .same .settings i .features .p5) (a .same .events i) d Instructions (a .same .instructions n i))
-                  ∙ sym (value-after d r₂ Instructions tt);
               ovs = ovs-alike d h;
+              places =
+                  λ p e n.
+                  value-after d r₁ p (has (a .sound₁) p e)
+                  ∙ (λ i. effect (a .same .settings i) (a .same .events i) d p (a .same .places p e n i))
+                  ∙ sym (value-after d r₂ p (has (a .sound₂) p e));
             };
         sound₁ = sound-stays d (a .sound₁);
         sound₂ = sound-stays d (a .sound₂);
       }
 
--- a named counter is kept
+-- what is named is kept
 pub kept-by : (x : Named) (d : Decision) (r : Machine) → Sound r → Hides x d → Kept x r (apply d r .machine)
-kept-by x d r s h =
-    record {
-      counters =
-          λ m le n.
-          value-after d r (Counter m) (omega (arith, s .sized))
-          ∙ untouched (r .settings .features .p5) (r .events) d (Counter m) _ (h (Counter m) n);
-      instructions =
-          λ n.
-          value-after d r Instructions tt ∙ untouched (r .settings .features .p5) (r .events) d Instructions _ (h Instructions n);
-    }
+kept-by x d r s h p e n = value-after d r p (has s p e) ∙ untouched (r .settings) (r .events) d p _ (h p n)

@@ -3,36 +3,62 @@
 use Prim.Native.Nat.{ℕ, _+_, _%_, _^_, _<_}
 use mathlib.Core.Bool.{Bool, true, false, cond, not, _&&_}
 use mathlib.Core.List.{List}
-use mathlib.Core.Path.{_≡_, refl, ap}
+use mathlib.Core.Path.{_≡_, refl, _∙_, ap}
 use native.Mathlib.Nat.{mod-lt}
 use borrow.Author.Tests.{lt-leb}
 use lib.Dec.{leb, lit<}
 use lib.ListN.{length, length-set}
 use Rattle.fields.specs.Largest.{exceeds}
 use Rattle.machine.specs.declared.Machine.{Machine}
-use Rattle.machine.specs.Machine.{withCounters, withInstructions, withOvs}
+use Rattle.machine.specs.declared.Settings.{Settings}
+use Rattle.machine.specs.Machine.{withCounters, withValues}
 use Rattle.state.specs.State.{anyWide, viewOf}
 use Rattle.rules.specs.declared.Decision.{Decision}
 use Rattle.rules.specs.declared.Decision.the-variants.{Says, Read, Write, Add}
 use Rattle.rules.specs.declared.Place.{Place}
 use Rattle.rules.specs.declared.Place.the-variants.{Counter, Instructions}
 use Rattle.rules.specs.Overflow.{width, plusOne}
-use Rattle.rules.specs.Apply.{added, incremented, valueAt, apply}
+use Rattle.rules.specs.Apply.{added, incremented, valueAt, withValue, takenBy, apply}
+use Rattle.rules.specs.Isolation.{samePlace}
 use Rattle.rules.proofs.Flags.{raised-fits}
 use Rattle.rules.proofs.Places.{getD-set, length-mapFrom, getD-mapFrom, narrow-set, narrow-mapFrom}
-use Rattle.rules.proofs.Touches.{samePlace, touches}
+use Rattle.rules.proofs.Touches.{touches}
 
--- the record afterwards: counters, instruction counter and overflow flags may be new, the rest is as it was
+-- a place with another value: the rest of the record is as it was, and the overflow flags are no place
+module _ (x : ℕ) (r : Machine) where
+  put-rest : (p : Place) → withValue p x r ≡ withCounters (withValue p x r .counters) (withValues (withValue p x r .values) r)
+  put-rest (Counter m) = refl
+  put-rest Instructions = refl
+
+  pub put-ovs : (p : Place) → withValue p x r .values .ovs ≡ r .values .ovs
+  put-ovs (Counter m) = refl
+  put-ovs Instructions = refl
+
+  put-length : (p : Place) → length (withValue p x r .counters) ≡ length (r .counters)
+  put-length (Counter m) = simp length-set
+  put-length Instructions = refl
+
+-- the record has the place
+abbrev pub Has : Machine → Place → Type 0
+Has r (Counter m) = m < length (r .counters)
+Has r Instructions = Unit {0}
+
+-- what a place holds where some place was given another value
+put-value :
+    (p q : Place) (x : ℕ) (r : Machine) → Has r q → valueAt q (withValue p x r) ≡ cond (samePlace p q) x (valueAt q r)
+put-value (Counter m) (Counter n) x r h = getD-set (r .counters) m x n h
+put-value (Counter m) Instructions x r h = refl
+put-value Instructions (Counter n) x r h = refl
+put-value Instructions Instructions x r h = refl
+
+-- the record afterwards: counters and values may be new, the rest is as it was
 pub rest-stays :
     (d : Decision) (r : Machine)
-    → apply d r .machine
-    ≡ withCounters (apply d r .machine .counters)
-    (withInstructions (apply d r .machine .instructions) (withOvs (apply d r .machine .ovs) r))
+    → apply d r .machine ≡ withCounters (apply d r .machine .counters) (withValues (apply d r .machine .values) r)
 unfolding apply
 rest-stays (Says a) r = refl
 rest-stays (Read p rt) r = refl
-rest-stays (Write (Counter m) x) r = refl
-rest-stays (Write Instructions x) r = refl
+rest-stays (Write p x) r = put-rest _ r p
 rest-stays (Add mask) r = refl
 
 module _ (d : Decision) (r : Machine) where
@@ -49,53 +75,40 @@ pub length-stays : (d : Decision) (r : Machine) → length (apply d r .machine .
 unfolding apply
 length-stays (Says a) r = refl
 length-stays (Read p rt) r = refl
-length-stays (Write (Counter m) x) r = simp length-set
-length-stays (Write Instructions x) r = refl
+length-stays (Write p x) r = put-length _ r p
 length-stays (Add mask) r = length-mapFrom _ 0 (r .counters)
 
--- what a place holds of a number written to it, and after an increment
-heldAt : Bool → Place → ℕ → ℕ
-heldAt p5 (Counter m) x = x % 2 ^ width p5
-heldAt p5 Instructions x = x
-
+-- what a place holds after an increment
 addedAt : Bool → List ℕ → ℕ → Place → ℕ → ℕ
 addedAt p5 e mask (Counter m) y = incremented p5 e mask m y
 addedAt p5 e mask Instructions y = y
 
 -- what a place holds after a decision, from what it held before
-pub effect : Bool → List ℕ → Decision → Place → ℕ → ℕ
-effect p5 e (Says a) p y = y
-effect p5 e (Read q rt) p y = y
-effect p5 e (Write q x) p y = cond (samePlace q p) (heldAt p5 p x) y
-effect p5 e (Add mask) p y = addedAt p5 e mask p y
-
--- the record has the place
-abbrev pub Has : Machine → Place → Type 0
-Has r (Counter m) = m < length (r .counters)
-Has r Instructions = Unit {0}
+pub effect : Settings → List ℕ → Decision → Place → ℕ → ℕ
+effect s e (Says a) p y = y
+effect s e (Read q rt) p y = y
+effect s e (Write q x) p y = cond (samePlace q p) (takenBy q s x) y
+effect s e (Add mask) p y = addedAt (s .features .p5) e mask p y
 
 pub value-after :
     (d : Decision) (r : Machine) (p : Place) → Has r p
-    → valueAt p (apply d r .machine) ≡ effect (r .settings .features .p5) (r .events) d p (valueAt p r)
-unfolding apply effect heldAt addedAt
+    → valueAt p (apply d r .machine) ≡ effect (r .settings) (r .events) d p (valueAt p r)
+unfolding apply effect addedAt
 value-after (Says a) r p h = refl
 value-after (Read q rt) r p h = refl
-value-after (Write (Counter m) x) r (Counter n) h = getD-set (r .counters) m _ n h
-value-after (Write (Counter m) x) r Instructions h = refl
-value-after (Write Instructions x) r (Counter n) h = refl
-value-after (Write Instructions x) r Instructions h = refl
+value-after (Write q x) r p h = put-value q p (takenBy q (r .settings) x) r h
 value-after (Add mask) r (Counter n) h = getD-mapFrom _ (r .counters) n h
 value-after (Add mask) r Instructions h = refl
 
 -- a place that the decision does not touch holds what it held
 pub untouched :
-    (p5 : Bool) (e : List ℕ) (d : Decision) (p : Place) (y : ℕ) → touches p d ≡ false → effect p5 e d p y ≡ y
+    (s : Settings) (e : List ℕ) (d : Decision) (p : Place) (y : ℕ) → touches p d ≡ false → effect s e d p y ≡ y
 unfolding effect addedAt incremented
-untouched p5 e (Says a) p y n = refl
-untouched p5 e (Read q rt) p y n = refl
-untouched p5 e (Write q x) p y n = rw n
-untouched p5 e (Add mask) (Counter m) y n = rw n
-untouched p5 e (Add mask) Instructions y n = refl
+untouched s e (Says a) p y n = refl
+untouched s e (Read q rt) p y n = refl
+untouched s e (Write q x) p y n = rw n
+untouched s e (Add mask) (Counter m) y n = rw n
+untouched s e (Add mask) Instructions y n = refl
 
 -- a number taken modulo 2^32 is not wide
 narrow-mod : (x : ℕ) → leb (2 ^ 32) (x % 2 ^ 32) ≡ false
@@ -112,6 +125,13 @@ narrow-incremented :
 unfolding incremented
 narrow-incremented p5 q e mask m y n = narrow-cond (added e mask m) (plusOne (width p5) y) y (rw q (narrow-mod (y + 1))) n
 
+-- a place that takes a number leaves the counters narrow, where p5 is missing
+narrow-put :
+    (p : Place) (x : ℕ) (r : Machine) → r .settings .features .p5 ≡ false → anyWide (r .counters) ≡ false
+    → anyWide (withValue p (takenBy p (r .settings) x) r .counters) ≡ false
+narrow-put (Counter m) x r p n = narrow-set (r .counters) m _ (rw p (narrow-mod x)) n
+narrow-put Instructions x r p n = n
+
 -- where p5 is missing, no counter becomes wide
 pub narrow-stays :
     (d : Decision) (r : Machine) → r .settings .features .p5 ≡ false → anyWide (r .counters) ≡ false
@@ -119,8 +139,7 @@ pub narrow-stays :
 unfolding apply
 narrow-stays (Says a) r p n = n
 narrow-stays (Read q rt) r p n = n
-narrow-stays (Write (Counter m) x) r p n = narrow-set (r .counters) m _ (rw p (narrow-mod x)) n
-narrow-stays (Write Instructions x) r p n = n
+narrow-stays (Write q x) r p n = narrow-put q x r p n
 narrow-stays (Add mask) r p n =
     narrow-mapFrom _ (narrow-incremented (r .settings .features .p5) p (r .events) mask) 0 (r .counters) n
 
@@ -139,10 +158,10 @@ wide-stays d r n =
 
 -- the overflow flags stay within their field
 pub ovs-stay-within :
-    (d : Decision) (r : Machine) → exceeds (r .ovs) 0x37 ≡ false → exceeds (apply d r .machine .ovs) 0x37 ≡ false
+    (d : Decision) (r : Machine) → exceeds (r .values .ovs) 0x37 ≡ false
+    → exceeds (apply d r .machine .values .ovs) 0x37 ≡ false
 unfolding apply
 ovs-stay-within (Says a) r e = e
 ovs-stay-within (Read p rt) r e = e
-ovs-stay-within (Write (Counter m) x) r e = e
-ovs-stay-within (Write Instructions x) r e = e
-ovs-stay-within (Add mask) r e = raised-fits _ (r .ovs) e refl
+ovs-stay-within (Write p x) r e = ap (λ o. exceeds o 0x37) (put-ovs _ r p) ∙ e
+ovs-stay-within (Add mask) r e = raised-fits _ (r .values .ovs) e refl

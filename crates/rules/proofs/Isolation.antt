@@ -1,10 +1,10 @@
 -- Demand 3: two machines that differ only in counters hidden from EL0, or from EL0 and EL1, answer every list of accesses from
--- there alike and keep those counters. One induction over the list, over any set of named counters that no decision touches;
+-- there alike and keep those counters. One induction over the list, over any set of named places that no decision touches;
 -- then the three claims, and the same of two consistent machines.
 use Prim.Native.Nat.{ℕ}
 use mathlib.Core.Bool.{Bool, true, not, _&&_}
 use mathlib.Core.List.{List, [], _∷_}
-use mathlib.Core.Path.{_≡_, refl, _∙_, ap₂, subst, subst⁻¹}
+use mathlib.Core.Path.{_≡_, refl, sym, _∙_, ap₂, subst, subst⁻¹}
 use native.Mathlib.Omega.{arith}
 use borrow.Author.Tests.{eq-eqb, leb-true, not-true}
 use lib.Dec.{eqb, leb}
@@ -19,8 +19,9 @@ use Rattle.machine.proofs.Bools.{and-left, and-right}
 use Rattle.rules.specs.declared.Decision.{Decision}
 use Rattle.rules.specs.Isolation.{Named, Kept, Start, ConsistentMachine, fromLevels, Isolated, Claim, Noninterference}
 use Rattle.rules.specs.Isolation.{fromHpmn, withoutP, instructionCounter, hpmnHides, pmuacrHides, f0Hides}
+use Rattle.rules.specs.declared.Place.{Place}
 use Rattle.rules.specs.declared.Place.the-variants.{Counter, Instructions}
-use Rattle.rules.specs.Apply.{apply}
+use Rattle.rules.specs.Apply.{valueAt, apply}
 use Rattle.rules.specs.Step.{Access, decide, step, access, run}
 use Rattle.rules.proofs.Alike.{Sound, Alike, Hides, view-alike, answers-alike, stays-alike, kept-by}
 use Rattle.rules.proofs.Applied.{settings-stay}
@@ -30,31 +31,31 @@ start-sound : {r : Machine} → Start r → Sound r
 unfolding viewOf
 start-sound {r} s = record { sized = s .sized; narrow = not-wide (viewOf (withLevel 0 r)) (s .consistent) }
 
+-- no place is in the level
+unlevelled : (l : ℕ) (r : Machine) (p : Place) → valueAt p (withLevel l r) ≡ valueAt p r
+unlevelled l r (Counter m) = refl
+unlevelled l r Instructions = refl
+
 -- the level put to an access's own
 at-level : (l : ℕ) {x : Named} {r₁ r₂ : Machine} → Alike x r₁ r₂ → Alike x (withLevel l r₁) (withLevel l r₂)
 unfolding viewOf
-at-level l a =
+at-level l {x} {r₁} {r₂} a =
     record {
       same =
           record {
             level = refl;
             settings = a .same .settings;
             events = a .same .events;
-            counters = a .same .counters;
-            instructions = a .same .instructions;
             ovs = a .same .ovs;
+            places = λ p e n. unlevelled l r₁ p ∙ a .same .places p e n ∙ sym (unlevelled l r₂ p);
           };
       sound₁ = record { sized = a .sound₁ .sized; narrow = a .sound₁ .narrow };
       sound₂ = record { sized = a .sound₂ .sized; narrow = a .sound₂ .narrow };
     }
 
 -- kept by an access, then by the rest of the list
-kept-on : (l : ℕ) {x : Named} {r s t : Machine} → Kept x (withLevel l r) s → Kept x s t → Kept x r t
-kept-on l j k =
-    record {
-      counters = λ m le n. k .counters m le n ∙ j .counters m le n;
-      instructions = λ n. k .instructions n ∙ j .instructions n;
-    }
+kept-on : (x : Named) (l : ℕ) (r s t : Machine) → Kept x (withLevel l r) s → Kept x s t → Kept x r t
+kept-on x l r s t j k p e n = k p e n ∙ j p e n ∙ unlevelled l r p
 
 -- what one access does to two records that are alike
 record Once (x : Named) (r₁ r₂ : Machine) (o₁ o₂ : Outcome) : Type 0 where
@@ -92,8 +93,8 @@ module _ (x : Named) (s : Settings) (top : ℕ)
       record {
         answers = refl;
         same = a .same;
-        kept₁ = record { counters = λ m le n. refl; instructions = λ n. refl };
-        kept₂ = record { counters = λ m le n. refl; instructions = λ n. refl };
+        kept₁ = λ p e n. refl;
+        kept₂ = λ p e n. refl;
       }
   isolated (b ∷ rest) r₁ r₂ l e a =
       let low : leb (b .level) top ≡ true = and-left (leb (b .level) top) (fromLevels top rest) l in
@@ -107,11 +108,11 @@ module _ (x : Named) (s : Settings) (top : ℕ)
       record {
         answers = ap₂ _∷_ (o .answer) (i .answers);
         same = i .same;
-        kept₁ = kept-on (b .level) (o .kept₁) (i .kept₁);
-        kept₂ = kept-on (b .level) (o .kept₂) (i .kept₂);
+        kept₁ = kept-on x (b .level) r₁ (access b r₁ .machine) _ (o .kept₁) (i .kept₁);
+        kept₂ = kept-on x (b .level) r₂ (access b r₂ .machine) _ (o .kept₂) (i .kept₂);
       }
 
--- no decision under such settings, from level top or below, touches a counter named
+-- no decision under such settings, from level top or below, touches a place named
 abbrev HidesAll : ℕ → (Settings → Named) → (Settings → Bool) → Type 0
 HidesAll top named when =
     (v : View) → when (v .settings) ≡ true → leb (v .level) top ≡ true → (w y : ℕ) → Hides (named (v .settings)) (decide v w y)

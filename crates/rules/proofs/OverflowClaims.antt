@@ -27,17 +27,16 @@ use Rattle.rules.specs.Step.{Access, decide, step, access, run}
 use Rattle.rules.specs.Isolation.{Start}
 use Rattle.rules.specs.OverflowClaims.{NoneCleared, NewFlagsByIncrements, addsTo, incrementedBy, incrementedIn}
 use Rattle.rules.specs.OverflowClaims.{AlikeButOvs, OverflowClaims}
-use Rattle.rules.proofs.Applied.{ovs-stay-within}
+use Rattle.rules.proofs.Applied.{put-ovs, ovs-stay-within}
 use Rattle.rules.proofs.Flags.{raised-bit, raised-keeps, raised-lt}
 
 -- a flag that is 1 stays 1
-set-stays : (d : Decision) (r : Machine) (m : ℕ) → m < flagBits → bit m (r .ovs) ≡ true → bit m (apply d r .machine .ovs) ≡ true
+set-stays : (d : Decision) (r : Machine) (m : ℕ) → m < flagBits → bit m (r .values .ovs) ≡ true → bit m (apply d r .machine .values .ovs) ≡ true
 unfolding apply
 set-stays (Says a) r m h e = e
 set-stays (Read p rt) r m h e = e
-set-stays (Write (Counter n) x) r m h e = e
-set-stays (Write Instructions x) r m h e = e
-set-stays (Add mask) r m h e = raised-keeps _ (r .ovs) m h e
+set-stays (Write p x) r m h e = ap (bit m) (put-ovs _ r p) ∙ e
+set-stays (Add mask) r m h e = raised-keeps _ (r .values .ovs) m h e
 
 pub none-cleared : NoneCleared
 unfolding run access step
@@ -56,15 +55,14 @@ new-flag f y m n e = go (ltb m flagBits) refl
         absurd (false≢true (sym (bit-past {x = raised f y} flagBits m (raised-lt f y) (ltb-false m flagBits t)) ∙ e))
 
 set-newly :
-    (d : Decision) (r : Machine) (m : ℕ) → bit m (r .ovs) ≡ false → bit m (apply d r .machine .ovs) ≡ true
+    (d : Decision) (r : Machine) (m : ℕ) → bit m (r .values .ovs) ≡ false → bit m (apply d r .machine .values .ovs) ≡ true
     → (m ≤ 30) × (addsTo d (r .events) m ≡ true)
 unfolding apply
 set-newly (Says a) r m n e = absurd (false≢true (sym n ∙ e))
 set-newly (Read p rt) r m n e = absurd (false≢true (sym n ∙ e))
-set-newly (Write (Counter i) x) r m n e = absurd (false≢true (sym n ∙ e))
-set-newly (Write Instructions x) r m n e = absurd (false≢true (sym n ∙ e))
+set-newly (Write p x) r m n e = absurd (false≢true (sym n ∙ sym (ap (bit m) (put-ovs _ r p)) ∙ e))
 set-newly (Add mask) r m n e =
-    let f = new-flag _ (r .ovs) m n e in
+    let f = new-flag _ (r .values .ovs) m n e in
     let below = ltb m 31 in
     let adds = added (r .events) mask m in
     let both = and-left (below && adds) (carries (overflowWidth (r .settings) m) (getD (r .counters) m 0)) f in
@@ -74,11 +72,11 @@ pub new-flags : NewFlagsByIncrements
 unfolding run access step
 new-flags r [] m n e = absurd (false≢true (sym n ∙ e))
 new-flags r (a ∷ rest) m n e =
-    go (bit m (access a r .machine .ovs)) refl (λ t. new-flags (access a r .machine) rest m t e)
+    go (bit m (access a r .machine .values .ovs)) refl (λ t. new-flags (access a r .machine) rest m t e)
   where
     go :
-        (b : Bool) → bit m (access a r .machine .ovs) ≡ b
-        → (bit m (access a r .machine .ovs) ≡ false → (m ≤ 30) × (incrementedIn rest (access a r .machine) m ≡ true))
+        (b : Bool) → bit m (access a r .machine .values .ovs) ≡ b
+        → (bit m (access a r .machine .values .ovs) ≡ false → (m ≤ 30) × (incrementedIn rest (access a r .machine) m ≡ true))
         → (m ≤ 30) × (incrementedBy a r m || incrementedIn rest (access a r .machine) m ≡ true)
     go true t ih =
         let s = set-newly _ (withLevel (a .level) r) m n t in
@@ -118,7 +116,7 @@ raised-alike f g q y z m e = go (ltb m flagBits) refl
         bit-past {x = raised f y} flagBits m (raised-lt f y) h ∙ sym (bit-past {x = raised g z} flagBits m (raised-lt g z) h)
 
 module _ (r₁ r₂ : Machine) (e : withOvs 0 r₁ ≡ withOvs 0 r₂) where
-  views-equal : exceeds (r₁ .ovs) 0x37 ≡ false → exceeds (r₂ .ovs) 0x37 ≡ false → viewOf r₁ ≡ viewOf r₂
+  views-equal : exceeds (r₁ .values .ovs) 0x37 ≡ false → exceeds (r₂ .values .ovs) 0x37 ≡ false → viewOf r₁ ≡ viewOf r₂
   unfolding viewOf
   views-equal p q =
       λ i.
@@ -137,26 +135,25 @@ module _ (r₁ r₂ : Machine) (e : withOvs 0 r₁ ≡ withOvs 0 r₂) where
 
   -- a flag that is equal in both stays so: the same counters carry in both
   flag-equal :
-      (d : Decision) (m : ℕ) → bit m (r₁ .ovs) ≡ bit m (r₂ .ovs)
-      → bit m (apply d r₁ .machine .ovs) ≡ bit m (apply d r₂ .machine .ovs)
+      (d : Decision) (m : ℕ) → bit m (r₁ .values .ovs) ≡ bit m (r₂ .values .ovs)
+      → bit m (apply d r₁ .machine .values .ovs) ≡ bit m (apply d r₂ .machine .values .ovs)
   unfolding apply
   flag-equal (Says a) m q = q
   flag-equal (Read p rt) m q = q
-  flag-equal (Write (Counter n) x) m q = q
-  flag-equal (Write Instructions x) m q = q
+  flag-equal (Write p x) m q = ap (bit m) (put-ovs _ r₁ p) ∙ q ∙ sym (ap (bit m) (put-ovs _ r₂ p))
   flag-equal (Add mask) m q =
-      raised-alike _ _ (λ n i. overflows (e i .settings) (e i .events) mask n (getD (e i .counters) n 0)) (r₁ .ovs) (r₂ .ovs) m q
+      raised-alike _ _ (λ n i. overflows (e i .settings) (e i .events) mask n (getD (e i .counters) n 0)) (r₁ .values .ovs) (r₂ .values .ovs) m q
 
 -- one access of two records that differ in the flags alone
 record Once (r₁ r₂ : Machine) (o₁ o₂ : Outcome) : Type 0 where
   answer : o₁ .answer ≡ o₂ .answer
   rest : withOvs 0 (o₁ .machine) ≡ withOvs 0 (o₂ .machine)
-  flags : (m : ℕ) → bit m (r₁ .ovs) ≡ bit m (r₂ .ovs) → bit m (o₁ .machine .ovs) ≡ bit m (o₂ .machine .ovs)
-  fits₁ : exceeds (o₁ .machine .ovs) 0x37 ≡ false
-  fits₂ : exceeds (o₂ .machine .ovs) 0x37 ≡ false
+  flags : (m : ℕ) → bit m (r₁ .values .ovs) ≡ bit m (r₂ .values .ovs) → bit m (o₁ .machine .values .ovs) ≡ bit m (o₂ .machine .values .ovs)
+  fits₁ : exceeds (o₁ .machine .values .ovs) 0x37 ≡ false
+  fits₂ : exceeds (o₂ .machine .values .ovs) 0x37 ≡ false
 
 once :
-    (w x : ℕ) (r₁ r₂ : Machine) → exceeds (r₁ .ovs) 0x37 ≡ false → exceeds (r₂ .ovs) 0x37 ≡ false
+    (w x : ℕ) (r₁ r₂ : Machine) → exceeds (r₁ .values .ovs) 0x37 ≡ false → exceeds (r₂ .values .ovs) 0x37 ≡ false
     → withOvs 0 r₁ ≡ withOvs 0 r₂
     → Once r₁ r₂ (step w x r₁) (step w x r₂)
 unfolding step
@@ -172,9 +169,9 @@ once w x r₁ r₂ p q e =
     })
 
 none-read-from :
-    (accesses : List Access) (r₁ r₂ : Machine) → exceeds (r₁ .ovs) 0x37 ≡ false → exceeds (r₂ .ovs) 0x37 ≡ false
+    (accesses : List Access) (r₁ r₂ : Machine) → exceeds (r₁ .values .ovs) 0x37 ≡ false → exceeds (r₂ .values .ovs) 0x37 ≡ false
     → withOvs 0 r₁ ≡ withOvs 0 r₂
-    → AlikeButOvs (r₁ .ovs) (r₂ .ovs) (run accesses r₁) (run accesses r₂)
+    → AlikeButOvs (r₁ .values .ovs) (r₂ .values .ovs) (run accesses r₁) (run accesses r₂)
 unfolding run access
 none-read-from [] r₁ r₂ p q e = record { answers = refl; same = e; flags = λ m f. f }
 none-read-from (a ∷ rest) r₁ r₂ p q e =
@@ -186,7 +183,7 @@ none-read-from (a ∷ rest) r₁ r₂ p q e =
       flags = λ m f. i .flags m (o .flags m f);
     }
 
-start-fits : {r : Machine} → Start r → exceeds (r .ovs) 0x37 ≡ false
+start-fits : {r : Machine} → Start r → exceeds (r .values .ovs) 0x37 ≡ false
 unfolding viewOf
 start-fits {r} s = ovs-fits (viewOf (withLevel 0 r)) (s .consistent)
 

@@ -2,7 +2,6 @@
 use Prim.Native.Nat.{ℕ}
 use mathlib.Core.Bool.{Bool, true, false, cond, _||_}
 use mathlib.Core.Path.{_≡_, refl}
-use lib.Dec.{eqb}
 use Rattle.answer.specs.declared.Cause.the-variants.{Mdcr3Tpm}
 use Rattle.answer.specs.declared.Level.the-variants.{El3}
 use Rattle.bits.specs.Bits.{bit}
@@ -22,15 +21,9 @@ use Rattle.rules.specs.declared.Register.{Register}
 use Rattle.rules.specs.declared.Stop.{Stop}
 use Rattle.rules.specs.Word.{decode}
 use Rattle.rules.specs.Traps.{haltedSdd, stopAtEl3, counterRules, stopOf}
+use Rattle.rules.specs.Isolation.{samePlace}
 use Rattle.rules.specs.Permitted.{placeAccess}
 use Rattle.rules.specs.Step.{unlessStopped, undefinedAtOnce, permitted, decideRegister, unlessRefused, decide}
-
--- two places are one
-abbrev pub samePlace : Place → Place → Bool
-samePlace (Counter m) (Counter i) = eqb m i
-samePlace (Counter m) Instructions = false
-samePlace Instructions (Counter i) = false
-samePlace Instructions Instructions = true
 
 -- a mask of event counters has the place
 abbrev pub inMask : ℕ → Place → Bool

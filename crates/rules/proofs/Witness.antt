@@ -1,17 +1,19 @@
 -- The claims of noninterference are not empty: records that differ in one hidden counter and meet all that a claim asks for, and
 -- what it says of them. Counter 5 is at or above HPMN and has no P bit; F0 is 0; every event counter is enabled. And records
 -- that differ in an overflow flag.
-use Prim.Native.Nat.{ℕ, zero, suc, _≤_}
-use mathlib.Core.Bool.{Bool, true, false, false≢true}
+use Prim.Native.Nat.{zero, suc}
+use mathlib.Core.Bool.{true, false, false≢true}
 use mathlib.Core.List.{List, [], _∷_}
 use mathlib.Core.Path.{_≡_, refl, sym, _∙_}
-use lib.ListN.{getD}
 use Rattle.fields.specs.Largest.{largest}
 use Rattle.fields.specs.Set.{set}
 use Rattle.store.specs.Store.{store, storeSettings, storeFeatures, storeMdcr2, storePmuacr}
 use Rattle.machine.specs.declared.Machine.{Machine}
 use Rattle.rules.specs.Example.{setAll, countersOn, usual}
-use Rattle.rules.specs.Isolation.{Start, Isolated, fromLevels, fromHpmn, withoutP, instructionCounter}
+use Rattle.rules.specs.declared.Place.{Place}
+use Rattle.rules.specs.declared.Place.the-variants.{Counter, Instructions}
+use Rattle.rules.specs.Apply.{valueAt}
+use Rattle.rules.specs.Isolation.{Named, isPlace, Start, Isolated, fromLevels, fromHpmn, withoutP, instructionCounter}
 use Rattle.rules.specs.OverflowClaims.{AlikeButOvs}
 use Rattle.rules.specs.Step.{Access, run}
 use Rattle.rules.proofs.Isolation.{noninterference}
@@ -51,18 +53,26 @@ unfolding four largest set store storeSettings storeFeatures storeMdcr2 storePmu
     setAll usual viewOf tooLarge refusals verdictOf
 start-four = record { sized = refl; consistent = refl }
 
--- counters other than 5 are equal in the first two
+-- places other than counter 5 are equal in the first two
 others :
-    (named : ℕ → Bool) → named 5 ≡ true → (m : ℕ) → m ≤ 30 → named m ≡ false
-    → getD (one .counters) m 0 ≡ getD (two .counters) m 0
+    (named : Named) → named (Counter 5) ≡ true → (p : Place) → isPlace p ≡ true → named p ≡ false
+    → valueAt p one ≡ valueAt p two
 unfolding one two largest set store storeSettings storeFeatures storeMdcr2 storePmuacr setAll usual
-others named five zero h e = refl
-others named five (suc zero) h e = refl
-others named five (suc (suc zero)) h e = refl
-others named five (suc (suc (suc zero))) h e = refl
-others named five (suc (suc (suc (suc zero)))) h e = refl
-others named five (suc (suc (suc (suc (suc zero))))) h e = absurd (false≢true (sym e ∙ five))
-others named five (suc (suc (suc (suc (suc (suc m)))))) h e = refl
+others named five (Counter zero) h e = refl
+others named five (Counter (suc zero)) h e = refl
+others named five (Counter (suc (suc zero))) h e = refl
+others named five (Counter (suc (suc (suc zero)))) h e = refl
+others named five (Counter (suc (suc (suc (suc zero))))) h e = refl
+others named five (Counter (suc (suc (suc (suc (suc zero)))))) h e = absurd (false≢true (sym e ∙ five))
+others named five (Counter (suc (suc (suc (suc (suc (suc m))))))) h e = refl
+others named five Instructions h e = refl
+
+-- places other than the instruction counter are equal in the first and the third
+all-but-instructions :
+    (p : Place) → isPlace p ≡ true → instructionCounter (one .settings) p ≡ false → valueAt p one ≡ valueAt p three
+unfolding one three largest set store storeSettings storeFeatures storeMdcr2 storePmuacr setAll usual
+all-but-instructions (Counter m) h e = refl
+all-but-instructions Instructions h e = absurd (false≢true (sym e))
 
 from-hpmn :
     (accesses : List Access) → fromLevels 1 accesses ≡ true → Isolated (fromHpmn (one .settings)) accesses one two
@@ -73,9 +83,8 @@ from-hpmn accesses l =
       level = refl;
       settings = refl;
       events = refl;
-      counters = others (fromHpmn (one .settings) .counter) refl;
-      instructions = λ e. refl;
       ovs = refl;
+      places = others (fromHpmn (one .settings)) refl;
     })
 
 without-p :
@@ -87,9 +96,8 @@ without-p accesses l =
       level = refl;
       settings = refl;
       events = refl;
-      counters = others (withoutP (one .settings) .counter) refl;
-      instructions = λ e. refl;
       ovs = refl;
+      places = others (withoutP (one .settings)) refl;
     })
 
 instructions :
@@ -102,11 +110,10 @@ instructions accesses l =
       level = refl;
       settings = refl;
       events = refl;
-      counters = λ m h e. refl;
-      instructions = λ e. absurd (false≢true (sym e));
       ovs = refl;
+      places = all-but-instructions;
     })
 
-flags : (accesses : List Access) → AlikeButOvs (one .ovs) (four .ovs) (run accesses one) (run accesses four)
+flags : (accesses : List Access) → AlikeButOvs (one .values .ovs) (four .values .ovs) (run accesses one) (run accesses four)
 unfolding one four largest set store storeSettings storeFeatures storeMdcr2 storePmuacr setAll usual
 flags accesses = overflow-claims .unread one four accesses start-one start-four refl

@@ -41,21 +41,26 @@ countersAfter mask r = mapFrom (incremented (r .settings .features .p5) (r .even
 
 -- MODEL G11 and G13: the overflow flags after it, from what the counters held before
 abbrev pub ovsAfter : ℕ → Machine → ℕ
-ovsAfter mask r = raised (λ m. overflows (r .settings) (r .events) mask m (getD (r .counters) m 0)) (r .ovs)
+ovsAfter mask r = raised (λ m. overflows (r .settings) (r .events) mask m (getD (r .counters) m 0)) (r .values .ovs)
 
 -- MODEL G2: what a place holds
 abbrev pub valueAt : Place → Machine → ℕ
 valueAt (Counter m) r = getD (r .counters) m 0
-valueAt Instructions r = r .instructions
+valueAt Instructions r = r .values .instructions
 
--- MODEL G1 and G2: the record with x written to a place, an event counter taking the bits of its width
+-- MODEL G2: the record in which a place holds x
 abbrev pub withValue : Place → ℕ → Machine → Machine
-withValue (Counter m) x r = withCounters (set (r .counters) m (x % 2 ^ width (r .settings .features .p5))) r
+withValue (Counter m) x r = withCounters (set (r .counters) m x) r
 withValue Instructions x r = withInstructions x r
+
+-- MODEL G1 and G2: what a place takes of a number that is written to it, an event counter the bits of its width
+abbrev pub takenBy : Place → Settings → ℕ → ℕ
+takenBy (Counter m) s x = x % 2 ^ width (s .features .p5)
+takenBy Instructions s x = x
 
 -- MODEL A3: what a decision answers, and the record afterwards
 unfoldable pub apply : Decision → Machine → Outcome
 apply (Says a) r = says a r
 apply (Read place rt) r = says (Answer.Mrs (valueAt place r) rt) r
-apply (Write place x) r = done (withValue place x r)
+apply (Write place x) r = done (withValue place (takenBy place (r .settings) x) r)
 apply (Add mask) r = done (withOvs (ovsAfter mask r) (withCounters (countersAfter mask r) r))

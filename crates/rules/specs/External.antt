@@ -124,11 +124,12 @@ ovsCounted y ovs = raised (λ m. eqb m 32 && carries 64 y) ovs
 abbrev pub enact : Effect → Machine → Outcome
 enact (Says a) r = says a r
 enact (Enables e) r = done (store 0x34 e r)
-enact ReadOvs r = says (Answer.Value (ovsShown (r .settings) (r .ovs))) r
-enact (ClearOvs mask) r = done (withOvs (lowered (λ m. bit m mask) (r .ovs)) r)
-enact (SetOvs mask) r = done (withOvs (raised (λ m. bit m mask) (r .ovs)) r)
+enact ReadOvs r = says (Answer.Value (ovsShown (r .settings) (r .values .ovs))) r
+enact (ClearOvs mask) r = done (withOvs (lowered (λ m. bit m mask) (r .values .ovs)) r)
+enact (SetOvs mask) r = done (withOvs (raised (λ m. bit m mask) (r .values .ovs)) r)
 enact Count r =
-    done (withOvs (ovsCounted (r .instructions) (r .ovs)) (withInstructions (plusOne 64 (r .instructions)) r))
+    let v = r .values in
+    done (withOvs (ovsCounted (v .instructions) (v .ovs)) (withInstructions (plusOne 64 (v .instructions)) r))
 
 -- MODEL E7 and E10: the external read at an offset
 unfoldable pub externalRead : ℕ → Machine → Outcome

@@ -1,37 +1,49 @@
 -- Two machines under one list: the claim of demand 3, about whole lists of accesses and about the very step of
 -- specs/Step.antt. Its proof is proofs/Isolation.antt; nothing here depends on it.
-use Prim.Native.Nat.{ℕ, _≤_}
+use Prim.Native.Nat.{ℕ}
 use mathlib.Core.Bool.{Bool, true, false, not, _&&_}
 use mathlib.Core.List.{List, [], _∷_}
 use mathlib.Core.Path.{_≡_}
-use lib.Dec.{leb}
-use lib.ListN.{getD, length}
+use lib.Dec.{leb, eqb}
+use lib.ListN.{length}
 use Rattle.machine.specs.declared.Machine.{Machine}
 use Rattle.machine.specs.declared.Settings.{Settings}
 use Rattle.state.specs.declared.Verdict.the-variants.{Consistent}
 use Rattle.machine.specs.Machine.{withLevel}
 use Rattle.state.specs.State.{viewOf, verdictOf}
 use Rattle.bits.specs.Bits.{bit}
+use Rattle.rules.specs.declared.Place.{Place}
+use Rattle.rules.specs.declared.Place.the-variants.{Counter, Instructions}
+use Rattle.rules.specs.Apply.{valueAt}
 use Rattle.rules.specs.Step.{Access, run}
 
--- MODEL M4: the counters named, which event counters and whether the instruction counter
-pub record Named : Type 0 where
-  pub counter : ℕ → Bool
-  pub instructions : Bool
+-- MODEL M4: what is named: the places of the record that a claim is about
+abbrev pub Named : Type 0
+Named = Place → Bool
 
--- MODEL M4: two records agree on the level and on every field but the counters named
+-- MODEL F15: a place that the record has; event counters are 0 to 30
+abbrev pub isPlace : Place → Bool
+isPlace (Counter m) = leb m 30
+isPlace Instructions = true
+
+-- MODEL M4: two places are one
+abbrev pub samePlace : Place → Place → Bool
+samePlace (Counter m) (Counter i) = eqb m i
+samePlace (Counter m) Instructions = false
+samePlace Instructions (Counter i) = false
+samePlace Instructions Instructions = true
+
+-- MODEL M4: two records agree on the level and on every field but the places named
 pub record SameExcept (x : Named) (r₁ r₂ : Machine) : Type 0 where
   pub level : r₁ .level ≡ r₂ .level
   pub settings : r₁ .settings ≡ r₂ .settings
   pub events : r₁ .events ≡ r₂ .events
-  pub counters : (m : ℕ) → m ≤ 30 → x .counter m ≡ false → getD (r₁ .counters) m 0 ≡ getD (r₂ .counters) m 0
-  pub instructions : x .instructions ≡ false → r₁ .instructions ≡ r₂ .instructions
-  pub ovs : r₁ .ovs ≡ r₂ .ovs
+  pub ovs : r₁ .values .ovs ≡ r₂ .values .ovs
+  pub places : (p : Place) → isPlace p ≡ true → x p ≡ false → valueAt p r₁ ≡ valueAt p r₂
 
--- MODEL M6: each counter named holds what it held at the start
-pub record Kept (x : Named) (start after : Machine) : Type 0 where
-  pub counters : (m : ℕ) → m ≤ 30 → x .counter m ≡ true → getD (after .counters) m 0 ≡ getD (start .counters) m 0
-  pub instructions : x .instructions ≡ true → after .instructions ≡ start .instructions
+-- MODEL M6: each place named holds what it held at the start
+abbrev pub Kept : Named → Machine → Machine → Type 0
+Kept x start after = (p : Place) → isPlace p ≡ true → x p ≡ true → valueAt p after ≡ valueAt p start
 
 -- MODEL M3: a start record, consistent with its level put to 0. A record of the code has 31 event counters by its type
 pub record Start (r : Machine) : Type 0 where
@@ -49,16 +61,16 @@ abbrev pub fromLevels : ℕ → List Access → Bool
 fromLevels top [] = true
 fromLevels top (a ∷ rest) = leb (a .level) top && fromLevels top rest
 
--- MODEL M5 and M6: every answer is the same, and the records afterwards agree and have kept their counters
+-- MODEL M5 and M6: every answer is the same, and the records afterwards agree and have kept what is named
 pub record Isolated (x : Named) (accesses : List Access) (r₁ r₂ : Machine) : Type 0 where
   pub answers : run accesses r₁ .answers ≡ run accesses r₂ .answers
   pub same : SameExcept x (run accesses r₁ .machine) (run accesses r₂ .machine)
   pub kept₁ : Kept x r₁ (run accesses r₁ .machine)
   pub kept₂ : Kept x r₂ (run accesses r₂ .machine)
 
--- MODEL M1 to M6: the claim for a condition on start records, accesses from level top or below, counters named by the
--- settings, and a condition on the settings: two machines that differ only in the counters named answer every list alike, and
--- each keeps those counters
+-- MODEL M1 to M6: the claim for a condition on start records, accesses from level top or below, places named by the
+-- settings, and a condition on the settings: two machines that differ only in the places named answer every list alike, and
+-- each keeps what it holds there
 abbrev pub Claim : (Machine → Type 0) → ℕ → (Settings → Named) → (Settings → Bool) → Type 0
 Claim start top named when =
     (r₁ r₂ : Machine) (accesses : List Access)
@@ -69,17 +81,24 @@ Claim start top named when =
     → SameExcept (named (r₁ .settings)) r₁ r₂
     → Isolated (named (r₁ .settings)) accesses r₁ r₂
 
+-- MODEL M7 and M8: the event counters that f tells, and no other place
+abbrev pub eventCounters : (ℕ → Bool) → Named
+eventCounters f (Counter m) = f m
+eventCounters f Instructions = false
+
+-- What each claim names, all in one place.
+
 -- MODEL M7: the event counters from HPMN on
 abbrev pub fromHpmn : Settings → Named
-fromHpmn s = record { counter = λ m. leb (s .mdcr2 .hpmn) m; instructions = false }
+fromHpmn s = eventCounters (λ m. leb (s .mdcr2 .hpmn) m)
 
 -- MODEL M8: the event counters whose P bit is 0
 abbrev pub withoutP : Settings → Named
-withoutP s = record { counter = λ m. not (bit m (s .pmuacr .p)); instructions = false }
+withoutP s = eventCounters (λ m. not (bit m (s .pmuacr .p)))
 
 -- MODEL M9: the instruction counter
 abbrev pub instructionCounter : Settings → Named
-instructionCounter s = record { counter = λ m. false; instructions = true }
+instructionCounter s = samePlace Instructions
 
 -- MODEL M7: the settings with which HPMN hides its counters
 abbrev pub hpmnHides : Settings → Bool

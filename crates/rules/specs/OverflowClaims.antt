@@ -19,7 +19,7 @@ use Rattle.rules.specs.Isolation.{Start}
 pub record AlikeButOvs (o₁ o₂ : ℕ) (a b : Run) : Type 0 where
   pub answers : a .answers ≡ b .answers
   pub same : withOvs 0 (a .machine) ≡ withOvs 0 (b .machine)
-  pub flags : (m : ℕ) → bit m o₁ ≡ bit m o₂ → bit m (a .machine .ovs) ≡ bit m (b .machine .ovs)
+  pub flags : (m : ℕ) → bit m o₁ ≡ bit m o₂ → bit m (a .machine .values .ovs) ≡ bit m (b .machine .values .ovs)
 
 -- MODEL M11: no access reads a flag: two start records that differ in the overflow flags alone answer every list alike, and no
 -- flag tells of another
@@ -29,15 +29,15 @@ NoneRead =
     → Start r₁
     → Start r₂
     → withOvs 0 r₁ ≡ withOvs 0 r₂
-    → AlikeButOvs (r₁ .ovs) (r₂ .ovs) (run accesses r₁) (run accesses r₂)
+    → AlikeButOvs (r₁ .values .ovs) (r₂ .values .ovs) (run accesses r₁) (run accesses r₂)
 
 -- MODEL M12: no access clears a flag: one that is 1 before a list is 1 after it
 abbrev pub NoneCleared : Type 0
 NoneCleared =
     (r : Machine) (accesses : List Access) (m : ℕ)
     → m ≤ 32
-    → bit m (r .ovs) ≡ true
-    → bit m (run accesses r .machine .ovs) ≡ true
+    → bit m (r .values .ovs) ≡ true
+    → bit m (run accesses r .machine .values .ovs) ≡ true
 
 -- MODEL M13: what was decided adds 1 to event counter m, with these event numbers
 abbrev pub addsTo : Decision → List ℕ → ℕ → Bool
@@ -59,8 +59,8 @@ incrementedIn (a ∷ rest) r m = incrementedBy a r m || incrementedIn rest (acce
 abbrev pub NewFlagsByIncrements : Type 0
 NewFlagsByIncrements =
     (r : Machine) (accesses : List Access) (m : ℕ)
-    → bit m (r .ovs) ≡ false
-    → bit m (run accesses r .machine .ovs) ≡ true
+    → bit m (r .values .ovs) ≡ false
+    → bit m (run accesses r .machine .values .ovs) ≡ true
     → (m ≤ 30) × (incrementedIn accesses r m ≡ true)
 
 -- MODEL M11, M12 and M13: the three together

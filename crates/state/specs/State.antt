@@ -39,7 +39,7 @@ viewAt l s counters ovs =
 
 -- MODEL V5: of a record
 unfoldable pub viewOf : Machine → View
-viewOf m = viewAt (m .level) (m .settings) (m .counters) (m .ovs)
+viewOf m = viewAt (m .level) (m .settings) (m .counters) (m .values .ovs)
 
 -- MODEL R10: some field, or the level, is above its largest. A field of one bit, an event number and a counter cannot be: their
 -- types end there

@@ -108,5 +108,5 @@ pub fn view_of(m: Machine) -> View
     ensures { λ v. ⌜ v ≡ viewOf m ⌝ }
 {
     let settings = m.settings;
-    view_at(m.level, settings, &m.counters, m.ovs)
+    view_at(m.level, settings, &m.counters, m.values.ovs)
 }

@@ -19,6 +19,7 @@ use Rattle.machine.specs.declared.Hdfgwtr.{Hdfgwtr}
 use Rattle.machine.specs.declared.Pmuacr.{Pmuacr}
 use Rattle.machine.specs.declared.External.{External}
 use Rattle.machine.specs.declared.Settings.{Settings}
+use Rattle.machine.specs.declared.Values.{Values}
 use Rattle.machine.specs.declared.Machine.{Machine}
 
 -- MODEL F1: a number from low to high, both included
@@ -149,8 +150,11 @@ storeSettings f v s =
 abbrev pub storeList : ℕ → ℕ → ℕ → List ℕ → List ℕ
 storeList first f v l = cond (within first (first + 30) f) (set l (f - first) v) l
 
--- MODEL F20: every field; event numbers are 40 to 5E, event counters 60 to 7E, the instruction counter (MODEL F16) 7F, the
--- overflow flags (MODEL F22) 37
+-- MODEL F16 and F22: the instruction counter is field 7F, the overflow flags are field 37
+abbrev pub storeValues : ℕ → ℕ → Values → Values
+storeValues f v s = record { instructions = number 0x7F f v (s .instructions); ovs = number 0x37 f v (s .ovs) }
+
+-- MODEL F20: every field; event numbers are 40 to 5E, event counters 60 to 7E
 unfoldable pub store : ℕ → ℕ → Machine → Machine
 store f v m =
     record {
@@ -158,6 +162,5 @@ store f v m =
       settings = storeSettings f v (m .settings);
       events = storeList 0x40 f v (m .events);
       counters = storeList 0x60 f v (m .counters);
-      instructions = number 0x7F f v (m .instructions);
-      ovs = number 0x37 f v (m .ovs);
+      values = storeValues f v (m .values);
     }

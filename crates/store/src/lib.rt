@@ -3,7 +3,7 @@
 ghost use mathlib.Core.Path.{_≡_};
 ghost use Rattle.store.specs.Store.{storeFeatures, storeExecution, storePmcr, storePmuserenr, storeHcr, storeMdcr2};
 ghost use Rattle.store.specs.Store.{storeMdcr3, storeScr, storeHdfgrtr, storeHdfgwtr, storePmuacr, storeExternal};
-ghost use Rattle.store.specs.Store.{storeSettings, storeList};
+ghost use Rattle.store.specs.Store.{storeSettings, storeList, storeValues};
 ghost use Prim.Native.Nat.{_%_};
 use machine::Execution;
 use machine::External;
@@ -18,6 +18,7 @@ use machine::Pmuacr;
 use machine::Pmuserenr;
 use machine::Scr;
 use machine::Settings;
+use machine::Values;
 
 fn features(s: Features, f: u8, v: u64) -> Features
     ensures { λ r. ⌜ r ≡ storeFeatures f v s ⌝ }
@@ -223,4 +224,13 @@ pub fn counters(c: [u64; 31], f: u8, v: u64) -> [u64; 31]
     let mut next = c;
     next[at] = v;
     next
+}
+
+pub fn values(s: Values, f: u8, v: u64) -> Values
+    ensures { λ r. ⌜ r ≡ storeValues f v s ⌝ }
+{
+    Values {
+        instructions: bits::pick(f == 0x7F, v, s.instructions),
+        ovs: bits::pick(f == 0x37, v, s.ovs),
+    }
 }

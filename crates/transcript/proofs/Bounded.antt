@@ -67,10 +67,10 @@ module _ (r : Machine) (b : tooLarge (viewOf r) ≡ false) where
       let level = ltb largestLevel (r .level) in
       let numbers = numbersLarge (viewOf r) in
       let numbers′ = numbersLarge (viewOf (store f v r)) in
-      let ovs = exceeds (r .ovs) 0x37 in
-      let ovs′ = exceeds (number 0x37 f v (r .ovs)) 0x37 in
+      let ovs = exceeds (r .values .ovs) 0x37 in
+      let ovs′ = exceeds (number 0x37 f v (r .values .ovs)) 0x37 in
       or-fails (numbers || ovs) (numbers′ || ovs′) level level
-      (or-fails numbers numbers′ ovs ovs′ (numbers-bounded f v h) (number-bounded 0x37 f v (r .ovs) h))
+      (or-fails numbers numbers′ ovs ovs′ (numbers-bounded f v h) (number-bounded 0x37 f v (r .values .ovs) h))
       (λ e. e)
       b
 
@@ -87,7 +87,7 @@ module _ (r : Machine) (b : tooLarge (viewOf r) ≡ false) where
       store-bounded 0x34 e (le-ltb (largest 0x34) e (omega (arith, below)))
 
   -- overflow flags that stay within their field
-  with-ovs : (o : ℕ) → (exceeds (r .ovs) 0x37 ≡ false → exceeds o 0x37 ≡ false) → tooLarge (viewOf (withOvs o r)) ≡ false
+  with-ovs : (o : ℕ) → (exceeds (r .values .ovs) 0x37 ≡ false → exceeds o 0x37 ≡ false) → tooLarge (viewOf (withOvs o r)) ≡ false
   unfolding tooLarge viewOf
   with-ovs o h = search or-fails
 
@@ -107,7 +107,7 @@ module _ (r : Machine) (b : tooLarge (viewOf r) ≡ false) where
         answer = step-spares r w x b;
         machine =
             rw (level-stays d r, settings-stay d r)
-            (with-ovs (apply d r .machine .ovs) (ovs-stay-within d r));
+            (with-ovs (apply d r .machine .values .ovs) (ovs-stay-within d r));
       }
 
   refused-bounded :
@@ -133,16 +133,16 @@ module _ (r : Machine) (b : tooLarge (viewOf r) ≡ false) where
   write-of-bounded Ignored x = says-bounded _ r refl b
   write-of-bounded Error x = says-bounded _ r refl b
   write-of-bounded Pmcntenset x = says-bounded _ _ refl (enables-bounded x)
-  write-of-bounded Pmovsclr x = says-bounded _ _ refl (with-ovs _ (lowered-fits _ (r .ovs)))
+  write-of-bounded Pmovsclr x = says-bounded _ _ refl (with-ovs _ (lowered-fits _ (r .values .ovs)))
   write-of-bounded Pmovsset x =
-      says-bounded _ _ refl (with-ovs _ (λ e. raised-fits _ (r .ovs) e (shown-bit-31 false (r .settings) x)))
+      says-bounded _ _ refl (with-ovs _ (λ e. raised-fits _ (r .values .ovs) e (shown-bit-31 false (r .settings) x)))
 
   count-bounded : Bounded (enact Count r)
   unfolding tooLarge viewOf
   count-bounded =
       says-bounded _ _ refl
-      (with-ovs (ovsCounted (r .instructions) (r .ovs))
-      (λ e. raised-fits (λ m. eqb m 32 && carries 64 (r .instructions)) (r .ovs) e refl))
+      (with-ovs (ovsCounted (r .values .instructions) (r .values .ovs))
+      (λ e. raised-fits (λ m. eqb m 32 && carries 64 (r .values .instructions)) (r .values .ovs) e refl))
 
   pub write-bounded : (offset x : ℕ) → Bounded (externalWrite offset x r)
   unfolding externalWrite effectOf viewOf

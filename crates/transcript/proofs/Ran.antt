@@ -56,7 +56,7 @@ module _ (c : Command) (m : Machine) (a : Answer) (next : Machine) where
       (w x : ℕ) (i : Instruction) (said : Said) (counters : List ℕ) → c ≡ Command.Access w x → i ≡ decode w
       → Lent (stepDecoded i x m) said counters
       → a ≡ said .answer
-      → next ≡ machineOf (m .level) (m .settings) (m .events) counters (said .instructions) (said .ovs)
+      → next ≡ machineOf (m .level) (m .settings) (m .events) counters (said .values)
       → says a next ≡ execute c m
   unfolding execute
   access-ran w x i said counters p e l q r =

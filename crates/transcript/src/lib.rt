@@ -35,19 +35,19 @@ fn write_lines(input: &[u8], out: &mut [u8]) -> usize
             Command::Access { word, operand } => {
                 let events = m.events;
                 let settings = m.settings;
+                let values = m.values;
                 let i = word::decode_by(&registers, word);
                 let said = access::lent_decoded(
                     &mut counters,
                     &events,
                     settings,
                     m.level,
-                    m.instructions,
-                    m.ovs,
+                    values,
                     i,
                     operand,
                 );
-                m.instructions = said.instructions;
-                m.ovs = said.ovs;
+                let after = said.values;
+                m.values = after;
                 let answer = said.answer;
                 a = answer;
             }

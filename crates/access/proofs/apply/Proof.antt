@@ -8,7 +8,7 @@ use Rattle.access.proofs.apply.Tie as tie
 returns : tie.Need-returns
 unfolding apply
 returns c =
-    λ l. simp (c .before .d .given .1) (record { answer = refl; instructions = refl; ovs = refl; counters = refl })
+    λ l. simp (c .before .d .given .1) (record { answer = refl; values = refl; counters = refl })
 
 returns-2 : tie.Need-returns-2
 unfolding apply
@@ -16,14 +16,14 @@ returns-2 c =
     let at-place = c .before .before .before in
     let at-d2 = at-place .before .before .before in
     λ l. simp (at-d2 .d2 .given .1, at-place .place .given .1)
-    (record { answer = simp (c .read .ensures); instructions = refl; ovs = refl; counters = refl })
+    (record { answer = simp (c .read .ensures); values = refl; counters = refl })
 
 returns-3 : tie.Need-returns-3
 unfolding apply
 returns-3 c =
     let at-d2 = c .before .before .before in
     λ l. simp (at-d2 .d2 .given .1, c .enum-told .given .1)
-    (record { answer = refl; instructions = refl; ovs = refl; counters = refl })
+    (record { answer = refl; values = refl; counters = refl })
 
 returns-4 : tie.Need-returns-4
 unfolding apply
@@ -32,14 +32,14 @@ returns-4 c =
     let at-place2 = at-store .before .before .before in
     let at-d3 = at-place2 .before .before .before in
     λ l. simp (at-d3 .d3 .given .1, at-place2 .place2 .given .1)
-    (record { answer = refl; instructions = refl; ovs = refl; counters = at-store .store .ensures })
+    (record { answer = refl; values = refl; counters = at-store .store .ensures })
 
 returns-5 : tie.Need-returns-5
 unfolding apply
 returns-5 c =
     let at-d3 = c .before .before .before in
     λ l. simp (at-d3 .d3 .given .1, c .enum-told2 .given .1)
-    (record { answer = refl; instructions = refl; ovs = refl; counters = refl })
+    (record { answer = refl; values = refl; counters = refl })
 
 returns-6 : tie.Need-returns-6
 unfolding apply
@@ -49,8 +49,7 @@ returns-6 c =
     λ l. simp (at-d4 .d4 .given .1)
     (record {
       answer = refl;
-      instructions = refl;
-      ovs = at-increment .increment .ensures .0;
+      values = simp (at-increment .increment .ensures .0);
       counters = at-increment .increment .ensures .1;
     })
 

@@ -18,17 +18,17 @@ returns-3 c =
 
 returns-4 : tie.Need-returns-4
 returns-4 c =
-    let at-e3 = c .before .before in
+    let at-e3 = c .before .before .before in
     simp (at-e3 .e3 .given .1, c .lowered .ensures)
 
 returns-5 : tie.Need-returns-5
 returns-5 c =
-    let at-e4 = c .before .before in
+    let at-e4 = c .before .before .before in
     simp (at-e4 .e4 .given .1, c .raised .ensures)
 
 returns-6 : tie.Need-returns-6
 returns-6 c =
-    let at-enum-told2 = c .before .before in
+    let at-enum-told2 = c .before .before .before in
     simp (at-enum-told2 .enum-told2 .given .1, c .wrapping-add-u64 .ensures, c .before .ovs-counted .ensures)
 
 pub enact-spec : {M : Type 1} → statement M

@@ -172,7 +172,7 @@ module _ {M : Type 1} (𝓤 : URA M) (H : Heap 𝓤) (A : Atoms 𝓤) (W : Given
         pass1 ! (init ! 8 refl (tt, record { fits = are .1 .0 .1 })) $ pass0 ! $
         -- [room for _7; …; room for _6; …; room for _5; …; room for _4; …; _3; …; _2; …; _1; …; room for _0; …]
         assigns ! (of-opd ! (load ! (from ! (stop !)) (look ! 12 refl)))
-        (from ! (stop !)) (init ! 6 refl (machine-fits W h _ is-h)) $
+        (from ! (stop !)) (init ! 6 {τ = M″.mir} {b = l₄} {o = zero} {v = val h} refl (machine-fits W h (val h) is-h)) $
         assigns ! (addr ! (from ! (stop !))) (from ! (stop !)) (init ! 2 refl (tt, tt)) $
         -- the local is lent, for a lifetime ν of the call
         move ! (6 ∷ []) $ use1 W (‵ (mem M′.the-row .lies h l₄ zero)) (lies-in W h l₄ is-h) $ lft-new ! tt (λ ν. move ! (1 ∷ []) $

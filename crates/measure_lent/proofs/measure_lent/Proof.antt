@@ -41,12 +41,13 @@ cast-decode-by c = omega arith
 
 decode-by-requires : tie.Need-decode-by-requires Inv-loop μ-loop
 decode-by-requires c κs =
-    let at-registers = c .before .before .before .before .before .before .before in
+    let at-registers = c .before .before .before .before .before .before .before .before in
     at-registers .registers .ensures
 
 add-k : tie.Need-add-k Inv-loop μ-loop
 add-k c =
-    let at-loop = c .before .before .before .before .before .before .before .before .before .before .before in
+    let at-decode-by = c .before .before .before .before .before .before in
+    let at-loop = at-decode-by .before .before .before .before .before .before .before in
     let at-start = at-loop .before .before .before .before .before in
     omega (arith, at-start .good)
 
@@ -55,9 +56,9 @@ loop-less c = omega arith
 
 loop-again : tie.Need-loop-again Inv-loop μ-loop
 loop-again c =
-    let at-lent-decoded = c .before .before in
+    let at-lent-decoded = c .before .before .before in
     let at-decode-by = at-lent-decoded .before .before .before in
-    let at-loop-test = at-decode-by .before .before .before .before .before in
+    let at-loop-test = at-decode-by .before .before .before .before .before .before in
     let at-loop = at-loop-test .before in
     let at-start = at-loop .before .before .before .before .before in
     let before = withLevel (getD (at-start .args .list .now) (at-loop .loop .k) 0 / 2 ^ 32 % 4) (at-loop .loop .m) in (

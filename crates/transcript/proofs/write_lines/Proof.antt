@@ -48,7 +48,7 @@ part-size-at-end c = omega (arith, c .before .before .loop .inv .within)
 
 decode-by-requires : tie.Need-decode-by-requires Inv-loop μ-loop
 decode-by-requires c κs =
-    let at-loop = c .before .before .before .before .before .before .before .before .before .before in
+    let at-loop = c .before .before .before .before .before .before .before .before .before .before .before in
     at-loop .before .before .before .registers .ensures
 
 other-requires : tie.Need-other-requires Inv-loop μ-loop
@@ -77,14 +77,15 @@ returns c =
     let at-command-of = at-size-at .before .before in
     let at-loop = at-command-of .before .before in
     let same =
-    ⊎-elim {C = at-match .match .c ≡ at-command-of .command-of .result} (λ w. w .12 ∙ sym (w .1 .given .1)) (λ v. v .6)
+    ⊎-elim {C = at-match .match .c ≡ at-command-of .command-of .result} (λ w. w .14 ∙ sym (w .1 .given .1)) (λ v. v .6)
     (at-match .match .came) in
     let m = withCounters (at-loop .loop .counters) (at-loop .loop .m) in
     let ran =
     ⊎-elim {C =
     says (at-match .match .a) (withCounters (at-match .match .counters) (at-match .match .m)) ≡ execute (at-match .match .c) m}
     (λ w.
-    access-ran _ m _ _ _ _ _ (w .9 .result) _ (w .12) (w .6 .ensures) (w .9 .ensures) (w .13) (ap₂ withCounters (w .11) (w .10)))
+    access-ran _ m _ _ _ _ _ (w .10 .result) _ (w .14) (w .7 .ensures) (w .10 .ensures) (w .15)
+    (ap₂ withCounters (w .13) (w .12)))
     (λ v. other-ran _ m _ _ _ (v .1 .result) (v .6) (v .1 .ensures) (v .7) (ap₂ withCounters (v .5) (v .4)))
     (at-match .match .came) in (
       turn-end (at-loop .loop .inv) (same ∙ at-command-of .command-of .ensures) (at-size-at .size-at .ensures)
@@ -100,14 +101,15 @@ loop-again c =
     let at-command-of = at-size-at .before .before in
     let at-loop = at-command-of .before .before in
     let same =
-    ⊎-elim {C = at-match .match .c ≡ at-command-of .command-of .result} (λ w. w .12 ∙ sym (w .1 .given .1)) (λ v. v .6)
+    ⊎-elim {C = at-match .match .c ≡ at-command-of .command-of .result} (λ w. w .14 ∙ sym (w .1 .given .1)) (λ v. v .6)
     (at-match .match .came) in
     let m = withCounters (at-loop .loop .counters) (at-loop .loop .m) in
     let ran =
     ⊎-elim {C =
     says (at-match .match .a) (withCounters (at-match .match .counters) (at-match .match .m)) ≡ execute (at-match .match .c) m}
     (λ w.
-    access-ran _ m _ _ _ _ _ (w .9 .result) _ (w .12) (w .6 .ensures) (w .9 .ensures) (w .13) (ap₂ withCounters (w .11) (w .10)))
+    access-ran _ m _ _ _ _ _ (w .10 .result) _ (w .14) (w .7 .ensures) (w .10 .ensures) (w .15)
+    (ap₂ withCounters (w .13) (w .12)))
     (λ v. other-ran _ m _ _ _ (v .1 .result) (v .6) (v .1 .ensures) (v .7) (ap₂ withCounters (v .5) (v .4)))
     (at-match .match .came) in
     turn-on (at-loop .loop .inv) (same ∙ at-command-of .command-of .ensures) (at-size-at .size-at .ensures)
@@ -120,7 +122,7 @@ loop-less c =
     let at-command-of = at-size-at .before .before in
     let at-loop = at-command-of .before .before in
     let same =
-    ⊎-elim {C = at-match .match .c ≡ at-command-of .command-of .result} (λ w. w .12 ∙ sym (w .1 .given .1)) (λ v. v .6)
+    ⊎-elim {C = at-match .match .c ≡ at-command-of .command-of .result} (λ w. w .14 ∙ sym (w .1 .given .1)) (λ v. v .6)
     (at-match .match .came) in
     omega (
       arith,

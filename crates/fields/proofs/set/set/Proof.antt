@@ -16,18 +16,16 @@ returns-2 c =
 
 returns-3 : tie.Need-returns-3
 returns-3 c =
-    let at-counters2 = c .before .before in
-    let at-events2 = at-counters2 .before in
+    let at-events2 = c .before .before in
     let at-settings2 = at-events2 .before in
-    let at-if2 = at-settings2 .before .before .before .before in
+    let at-if2 = at-settings2 .before .before .before .before .before in
     let at-if1 = at-if2 .before in
     let at-largest = at-if1 .before in
     simp (
       at-settings2 .settings2 .ensures,
       at-events2 .events2 .ensures,
-      at-counters2 .counters2 .ensures,
-      c .before .pick .ensures,
-      c .pick2 .ensures,
+      c .before .counters2 .ensures,
+      c .values2 .ensures,
     )
     (set-stores _ _ _ (λ z. at-if1 .if1 .left (at-largest .largest .ensures ∙ z))
     (simp (at-largest .largest .ensures) at (at-if2 .if2 .left)))
@@ -39,7 +37,6 @@ set-spec =
     (λ c κs. tt)
     returns
     returns-2
-    (λ c κs. tt)
     (λ c κs. tt)
     (λ c κs. tt)
     (λ c κs. tt)
