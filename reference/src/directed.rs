@@ -12,7 +12,13 @@ mod icntr;
 mod input;
 mod overflow;
 mod pmovs;
+mod pmsicr;
+mod pmsicr_stored;
+mod pmsicr_words;
 mod running;
+mod sampling;
+mod sampling_input;
+mod sampling_start;
 mod script;
 mod state;
 mod swinc;
@@ -53,6 +59,12 @@ pub fn all() -> Vec<Session> {
         pmovs::sessions,
         running::sessions,
         worked::sessions,
+        pmsicr::sessions,
+        pmsicr_words::sessions,
+        pmsicr_stored::sessions,
+        sampling::sessions,
+        sampling_start::sessions,
+        sampling_input::sessions,
     ];
     subjects.iter().flat_map(|sessions| sessions()).collect()
 }

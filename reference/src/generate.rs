@@ -1,10 +1,13 @@
 //! Pseudo-random sessions that stay consistent most of the time. A machine of
 //! the model goes along, only to steer: it takes part in no expectation.
 
-use crate::model::Machine;
+use crate::model::{Answer, Machine};
 use crate::session::LIMIT;
 
+mod sampling;
 mod stops;
+
+use sampling::pmsicr_word;
 
 /// splitmix64.
 pub struct Rng(u64);
@@ -201,15 +204,17 @@ impl Writer {
         self.change_level();
     }
 
-    /// MODEL T1 to T6 and I1 to I6: Debug state with EL3 in the way, the first
-    /// and the last against those between.
+    /// MODEL T1 to T6, I1 to I6 and N1 to N4: Debug state with EL3 in the way,
+    /// the first and the last against those between.
     fn debug_state(&mut self) {
         for field in [0x0A, 0x0B, 0x11, 0x12, 0x28] {
             self.start_bit(field, 85);
         }
-        for field in [0x26, 0x2A, 0x2B, 0x2C, 0x2E, 0x29] {
+        for field in [0x26, 0x2A, 0x2B, 0x2C, 0x2E, 0x29, 0x86] {
             self.start_bit(field, 50);
         }
+        let nspb = self.rng.below(4);
+        self.set(0x88, nspb);
     }
 
     /// Event numbers and counters.
@@ -286,12 +291,15 @@ impl Writer {
 // Commands in the middle of a session.
 impl Writer {
     /// One command, or a few that make a counter run over, or switch it off, or
-    /// that stop an access.
+    /// that stop an access, or that sample.
     fn step(&mut self) {
         match self.rng.below(100) {
             0..=7 => self.run_over(),
             8..=12 => self.switch_off(),
-            13..=15 => self.stop_access(),
+            13..=16 => self.stop_access(),
+            17..=20 => self.sample(),
+            21..=22 => self.start_profiling(),
+            23..=24 => self.reach_pmsicr(),
             _ => self.command(),
         }
     }
@@ -305,13 +313,14 @@ impl Writer {
         match self.rng.below(100) {
             0..=15 => self.some_set(),
             16..=27 => self.some_level(),
-            28..=74 => self.some_access(),
-            75..=82 => self.some_read(),
-            83..=89 => self.some_write(),
-            _ => {
+            28..=72 => self.some_access(),
+            73..=80 => self.some_read(),
+            81..=87 => self.some_write(),
+            88..=94 => {
                 let flag = self.rng.pick(&[0, 0, 0, 0, 1, 1, 2, 0xFF]);
                 self.tick(flag);
             }
+            _ => self.some_member(),
         }
     }
 
@@ -320,7 +329,8 @@ impl Writer {
         let value = self.rng.next();
         match self.rng.below(20) {
             0 => {
-                let field = self.rng.pick(&[0x0D, 0x0F, 0x13, 0x1F, 0x3F, 0x5F, 0x80, 0xB7, 0xFF]);
+                let field =
+                    self.rng.pick(&[0x0D, 0x0F, 0x13, 0x1F, 0x3F, 0x5F, 0x8E, 0x8F, 0xB7, 0xFF]);
                 self.set(field, value & 1);
             }
             1 => {
@@ -330,7 +340,7 @@ impl Writer {
             2 => {
                 let field = self.rng.pick(&[
                     0x00, 0x0C, 0x10, 0x20, 0x27, 0x32, 0x34, 0x35, 0x36, 0x3C, 0x3D, 0x3E, 0x40,
-                    0x5E,
+                    0x5E, 0x80, 0x83, 0x88, 0x8A, 0x8B,
                 ]);
                 let largest = Machine::largest(field).unwrap_or(0);
                 self.set(field, largest + 1);
@@ -361,7 +371,7 @@ impl Writer {
 
     /// A set command that leaves a consistent record consistent.
     fn good_set(&mut self) {
-        let field = match self.rng.below(10) {
+        let field = match self.rng.below(13) {
             0 => 0x60 + self.rng.below(32) as u8,
             1 => 0x40 + self.rng.below(31) as u8,
             2 => self.rng.pick(&[0x32, 0x34, 0x0C, 0x27]),
@@ -370,6 +380,7 @@ impl Writer {
             5 => 0x10 + self.rng.below(3) as u8,
             6 => self.rng.pick(&[0x35, 0x36, 0x37]),
             7 => self.rng.pick(&[0x34, 0x3D, 0x3E]),
+            8..=10 => 0x80 + self.rng.below(14) as u8,
             _ => self.rng.pick(&PASSING).0,
         };
         let value = match field {
@@ -381,6 +392,7 @@ impl Writer {
             0x3D | 0x3E => self.rng.chance(70) as u64,
             0x37 => self.flags(),
             0x0C | 0x27 => self.rng.below(32),
+            0x80..=0x8D => self.sampling_value(field),
             _ => self.rng.below(2),
         };
         let mut trial = self.machine.clone();
@@ -493,7 +505,7 @@ impl Writer {
         let operand = self.operand();
         let rt = if self.rng.chance(12) { 31 } else { self.rng.below(31) as u32 };
         let read = self.rng.chance(55);
-        let chosen = match self.rng.below(20) {
+        let chosen = match self.rng.below(22) {
             0..=8 => counter_word(read, self.counter(), rt),
             9..=13 => {
                 let mask = self.mask();
@@ -503,6 +515,10 @@ impl Writer {
             }
             14..=17 => word(read, 9, 4, 0, rt),
             18 => self.neighbour(rt),
+            19 | 20 => {
+                self.some_pmsicr(read, rt);
+                return;
+            }
             _ => self.rng.next() as u32,
         };
         self.access(chosen, operand);
@@ -542,16 +558,20 @@ impl Writer {
         with_op1(chosen, self.rng.below(8) as u32)
     }
 
-    /// A word that differs a little from one of ours, or has CRn 9 or 14.
+    /// A word that differs a little from one of ours, PMSICR's with any op1 among
+    /// them, or has CRn 9 or 14.
     fn neighbour(&mut self, rt: u32) -> u32 {
         let read = self.rng.chance(50);
-        if self.rng.chance(50) {
-            return self.beside(read, rt);
+        match self.rng.below(20) {
+            0..=8 => return self.beside(read, rt),
+            9..=11 => return with_op1(pmsicr_word(read, rt), self.rng.below(8) as u32),
+            _ => {}
         }
         let m = self.rng.below(32) as u32;
-        let ours = match self.rng.below(3) {
+        let ours = match self.rng.below(4) {
             0 => counter_word(read, m, rt),
             1 => word(false, 9, 12, 4, rt),
+            2 => pmsicr_word(read, rt),
             _ => word(read, 9, 4, 0, rt),
         };
         ours ^ 1 << self.rng.below(32)
@@ -805,7 +825,8 @@ impl Writer {
 
 // The end of a session.
 impl Writer {
-    /// Opens everything, then reads each counter, the enables and the flags.
+    /// Opens everything, then reads each counter, the enables and the flags, and
+    /// mostly PMSICR and the word at 0x838.
     fn dump(&mut self) {
         const OPEN: [(u8, u64); 15] = [
             (0x10, 0), (0x00, 1), (0x01, 1), (0x03, 1), (0x06, 1),
@@ -823,6 +844,9 @@ impl Writer {
         self.read(0xC00);
         let offset = self.flags_offset();
         self.read(offset);
+        if self.rng.chance(75) {
+            self.dump_sampling();
+        }
     }
 
     /// Mostly the end command alone.
@@ -835,7 +859,7 @@ impl Writer {
                 self.noise(count);
             }
             78..=83 => {
-                let first = self.rng.pick(&[0x07, 0x08, 0x10, 0x80, 0xFF]);
+                let first = self.rng.pick(&[0x07, 0x09, 0x10, 0x80, 0xFF]);
                 self.bytes.push(first);
                 self.noise(5);
             }
@@ -890,6 +914,7 @@ pub fn session(seed: u64, index: u64) -> Vec<u8> {
     }
     writer.features();
     writer.settings();
+    writer.sampling_settings();
     if writer.rng.chance(15) {
         writer.debug_state();
     }
@@ -897,7 +922,7 @@ pub fn session(seed: u64, index: u64) -> Vec<u8> {
     if writer.rng.chance(12) {
         writer.spoil();
     }
-    let count = writer.rng.pick(&[3, 10, 30, 60, 100, 120]);
+    let count = writer.rng.pick(&[3, 10, 30, 50, 80, 95]);
     for _ in 0..count {
         writer.step();
     }

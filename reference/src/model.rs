@@ -1,7 +1,10 @@
 //! The machine record and what it answers, shaped after the pseudocode of the
-//! four register pages of Arm's. Each page has one function per exception
+//! five register pages of Arm's. Each page has one function per exception
 //! level; the machine is passed by reference. The external overflow registers
-//! have no page: they follow that of PMCNTENSET_EL0.
+//! have no page: they follow that of PMCNTENSET_EL0. PMSICR_EL1 and what counts
+//! in it have a file of their own.
+
+mod sampling;
 
 /// Everything a command can answer, except the end of a session.
 #[derive(Clone, Copy, Debug, PartialEq, Eq)]
@@ -10,6 +13,8 @@ pub enum Answer {
     Undefined,
     Other,
     Error,
+    /// MODEL J9: the member of the sample population is selected.
+    Sampled,
     /// Target exception level, syndrome, and the control that stopped the access.
     Trap { target: u8, syndrome: u32, cause: Cause },
     /// What MRS puts into register Xt.
@@ -27,8 +32,9 @@ pub enum Answer {
 pub enum Cause {
     /// PMUSERENR_EL0 does not let EL0 use the register, wherever the trap goes.
     Pmuserenr,
-    /// The bit of the register and direction in HDFGRTR_EL2, HDFGWTR_EL2 or, for
-    /// PMICNTR_EL0, in HDFGRTR2_EL2, HDFGWTR2_EL2.
+    /// The bit of the register and direction in HDFGRTR_EL2, HDFGWTR_EL2 or,
+    /// for PMICNTR_EL0, in HDFGRTR2_EL2, HDFGWTR2_EL2. PMSICR_EL1 has bits of
+    /// its own.
     FineGrained,
     /// MDCR_EL2.TPM is 1.
     MdcrEl2Tpm,
@@ -40,10 +46,16 @@ pub enum Cause {
     Enpm2,
     /// SCR_EL3.FGTEn2 is 0.
     Fgten2,
+    /// MODEL D8: MDCR_EL2.TPMS is 1.
+    Tpms,
+    /// MODEL D9: MDCR_EL3.NSPB does not give the buffer to the state that
+    /// SCR_EL3.NS names, or its lowest bit is 0.
+    Nspb,
 }
 
 impl Cause {
-    /// MODEL D1 to D7: the number that document 02 gives it.
+    /// MODEL D1 to D9: the number that document 02 gives
+    /// it.
     pub fn number(self) -> u8 {
         match self {
             Cause::Pmuserenr => 1,
@@ -53,6 +65,8 @@ impl Cause {
             Cause::MdcrEl3Tpm => 5,
             Cause::Enpm2 => 6,
             Cause::Fgten2 => 7,
+            Cause::Tpms => 8,
+            Cause::Nspb => 9,
         }
     }
 }
@@ -79,7 +93,7 @@ const BIT_F0: u64 = 1 << 32;
 /// Bit 31 would be PMCCNTR_EL0's, of which there is no model.
 const PMOVS_BITS: u64 = BIT_F0 | 0x7FFF_FFFF;
 
-/// MODEL F1 to F22: the machine record. A fresh one is all zero.
+/// MODEL F1 to F24: the machine record. A fresh one is all zero.
 #[derive(Clone, Debug, Default, PartialEq, Eq)]
 pub struct Machine {
     /// PSTATE.EL
@@ -148,6 +162,26 @@ pub struct Machine {
     pub event: [u16; 31],
     pub pmevcntr: [u64; 31],
     pub pmicntr: u64,
+    // MODEL F2 and F23: FEAT_SPE, PMSIDR_EL1.ERnd, PMSIRR_EL1.RND, and profiling enabled.
+    pub spe: bool,
+    pub ernd: bool,
+    pub rnd: bool,
+    pub profiling: bool,
+    // HCR_EL2.NV and NV2, MDCR_EL2.TPMS, SCR_EL3.NS and MDCR_EL3.NSPB, two bits.
+    pub nv: bool,
+    pub nv2: bool,
+    pub tpms: bool,
+    pub ns: bool,
+    pub nspb: u8,
+    // The bits of PMSICR_EL1 in HDFGRTR_EL2 and HDFGWTR_EL2.
+    pub hdfgrtr_pmsicr: bool,
+    pub hdfgwtr_pmsicr: bool,
+    /// What the primary counter is reloaded from.
+    pub reload: u32,
+    /// PMSICR_EL1 with its reserved bits, which only a set can make 1.
+    pub pmsicr: u64,
+    /// NVMem[0x838]
+    pub nvmem_838: u64,
 }
 
 /// A system register move, as its instruction word gives it.
@@ -168,6 +202,7 @@ pub enum Register {
     Pmevcntr(u8),
     Pmswinc,
     Pmicntr,
+    Pmsicr,
 }
 
 /// Bits `high` to `low` of a word.
@@ -200,6 +235,7 @@ impl Move {
             }
             (3, 3, 9, 12, 4) => Some(Register::Pmswinc),
             (3, 3, 9, 4, 0) => Some(Register::Pmicntr),
+            (3, 0, 9, 9, 2) => Some(Register::Pmsicr),
             _ => None,
         }
     }
@@ -230,6 +266,7 @@ impl Machine {
             0x00..=0x0B | 0x10..=0x12 | 0x20..=0x36 | 0x38..=0x3E => Some(1),
             0x40..=0x5E => Some(0xFFFF),
             0x60..=0x7F => Some(u64::MAX),
+            0x80..=0x8D => Some(Machine::largest_of_sampling(field)),
             _ => None,
         }
     }
@@ -258,6 +295,7 @@ impl Machine {
             0x40..=0x5E => self.event[field as usize - 0x40] = value as u16,
             0x60..=0x7E => self.pmevcntr[field as usize - 0x60] = value,
             0x7F => self.pmicntr = value,
+            0x80..=0x8D => self.set_sampling(field, value),
             _ => self.set_bit(field, value == 1),
         }
         Answer::Ok
@@ -356,7 +394,7 @@ impl Machine {
     fn out_of_range(&self) -> bool {
         let numbers = self.el > 3 || self.n > 31 || self.hpmn > 31;
         let masks = self.pmuacr_p > 0x7FFF_FFFF || self.pmcnten > 0x1_FFFF_FFFF;
-        numbers || masks || self.pmovs & !PMOVS_BITS != 0
+        numbers || masks || self.pmovs & !PMOVS_BITS != 0 || self.nspb > 3
     }
 
     /// MODEL V3: the lowest number of R10 to R17 that applies.
@@ -496,8 +534,9 @@ impl Machine {
         }
     }
 
-    /// MODEL G12: HPMN divides the counters wherever EL2 is implemented, enabled
-    /// or not. Those from it up are the second range, which MDCR_EL2 has bits for.
+    /// MODEL G12: HPMN divides the counters wherever EL2 is implemented,
+    /// enabled or not. Those from it up are the second range, which MDCR_EL2
+    /// has bits for.
     fn second_range(&self, m: u8) -> bool {
         self.have_el2 && m >= self.hpmn
     }
@@ -735,6 +774,7 @@ impl Machine {
             Register::Pmevcntr(m) => self.pmevcntr_flow(m, instruction.read),
             Register::Pmswinc => self.pmswinc_flow(instruction.read),
             Register::Pmicntr => self.pmicntr_flow(instruction.read),
+            Register::Pmsicr => self.pmsicr_flow(instruction.read),
         };
         match flow {
             Undefined => Answer::Undefined,
@@ -754,6 +794,7 @@ impl Machine {
         match register {
             Register::Pmevcntr(m) => self.read_pmevcntr(m),
             Register::Pmicntr => self.read_pmicntr(),
+            Register::Pmsicr => self.read_pmsicr(),
             Register::Pmswinc => unreachable!("MRS of PMSWINC is undefined"),
         }
     }
@@ -762,6 +803,7 @@ impl Machine {
         match register {
             Register::Pmevcntr(m) => self.write_pmevcntr(m, xt),
             Register::Pmicntr => self.write_pmicntr(xt),
+            Register::Pmsicr => self.write_pmsicr(xt),
             Register::Pmswinc => self.write_pmswinc(xt),
         }
     }

@@ -99,6 +99,7 @@ pub fn code(command: Command) -> String {
             format!("05 {} v:{value}", hexadecimal(&offset.to_le_bytes()))
         }
         Command::Tick { prohibited } => format!("06 {prohibited:02X}"),
+        Command::Member { draw } => format!("08 {draw:02X}"),
     }
 }
 
@@ -114,6 +115,7 @@ fn comment(command: Command) -> String {
         Command::Tick { prohibited: 0 } => "tick".to_string(),
         Command::Tick { prohibited: 1 } => "tick, prohibited".to_string(),
         Command::Tick { .. } => "tick, no such flag".to_string(),
+        Command::Member { draw } => format!("member, draw {draw}"),
     }
 }
 
@@ -127,6 +129,7 @@ fn instruction(word: u32) -> String {
         Some(Register::Pmevcntr(m)) => format!("PMEVCNTR{m}_EL0"),
         Some(Register::Pmswinc) => "PMSWINC_EL0".to_string(),
         Some(Register::Pmicntr) => "PMICNTR_EL0".to_string(),
+        Some(Register::Pmsicr) => "PMSICR_EL1".to_string(),
         None => return String::new(),
     };
     let xt = if found.rt == 31 { "XZR".to_string() } else { format!("X{}", found.rt) };
@@ -150,7 +153,7 @@ fn field_name(field: u8) -> String {
 }
 
 /// Names of the fields outside the two rows of counters.
-const NAMES: [(u8, &str); 48] = [
+const NAMES: [(u8, &str); 62] = [
     (0x00, "PMUv3"),
     (0x01, "PMUv3p5"),
     (0x02, "PMUv3p9"),
@@ -199,4 +202,18 @@ const NAMES: [(u8, &str); 48] = [
     (0x3D, "PMCR.E"),
     (0x3E, "MDCR_EL2.HPME"),
     (0x7F, "instruction counter"),
+    (0x80, "SPE"),
+    (0x81, "PMSIDR.ERnd"),
+    (0x82, "PMSIRR.RND"),
+    (0x83, "profiling"),
+    (0x84, "HCR.NV"),
+    (0x85, "HCR.NV2"),
+    (0x86, "MDCR_EL2.TPMS"),
+    (0x87, "SCR.NS"),
+    (0x88, "MDCR_EL3.NSPB"),
+    (0x89, "fine-grained read of PMSICR"),
+    (0x8A, "fine-grained write of PMSICR"),
+    (0x8B, "reload of the primary counter"),
+    (0x8C, "PMSICR"),
+    (0x8D, "word at 838"),
 ];

@@ -1,12 +1,13 @@
-//! MODEL S1 to S6, L1 to L3: sessions, a row of bytes in, lines out. A session
-//! always starts from the fresh machine.
+//! MODEL S1 to S6 and L1 to L3: sessions, a row of bytes in,
+//! lines out. A session always starts from the fresh machine.
 
 use crate::model::{Answer, Machine};
 
 /// A session of more bytes is not run.
 pub const LIMIT: usize = 4096;
 
-/// One command with its operands.
+/// One command with its operands. A member is one of the sample population
+/// (MODEL J5).
 #[derive(Clone, Copy, Debug, PartialEq, Eq)]
 pub enum Command {
     End,
@@ -16,6 +17,7 @@ pub enum Command {
     Read { offset: u16 },
     Write { offset: u16, value: u64 },
     Tick { prohibited: u8 },
+    Member { draw: u8 },
 }
 
 /// What stands at the start of a row of bytes.
@@ -39,6 +41,7 @@ fn length(first: u8) -> Option<usize> {
         0x04 => Some(1 + 2),
         0x05 => Some(1 + 2 + 8),
         0x06 => Some(1 + 1),
+        0x08 => Some(1 + 1),
         _ => None,
     }
 }
@@ -69,7 +72,8 @@ pub fn parse(bytes: &[u8]) -> Parsed {
         0x03 => Command::Access { word: little(&b[..4]) as u32, operand: little(&b[4..]) },
         0x04 => Command::Read { offset: little(b) as u16 },
         0x05 => Command::Write { offset: little(&b[..2]) as u16, value: little(&b[2..]) },
-        _ => Command::Tick { prohibited: b[0] },
+        0x06 => Command::Tick { prohibited: b[0] },
+        _ => Command::Member { draw: b[0] },
     };
     Parsed::Command(command, length)
 }
@@ -84,6 +88,7 @@ pub fn obey(machine: &mut Machine, command: Command) -> Answer {
         Command::Read { offset } => machine.external_read(offset),
         Command::Write { offset, value } => machine.external_write(offset, value),
         Command::Tick { prohibited } => machine.tick(prohibited),
+        Command::Member { draw } => machine.member(draw),
     }
 }
 
@@ -94,6 +99,7 @@ pub fn words(answer: Answer) -> String {
         Answer::Undefined => "undef".to_string(),
         Answer::Other => "other".to_string(),
         Answer::Error => "error".to_string(),
+        Answer::Sampled => "sampled".to_string(),
         Answer::Trap { target, syndrome, cause } => {
             format!("trap {target} {syndrome:08X} {}", cause.number())
         }

@@ -1,10 +1,14 @@
 //! Tests: the worked session (MODEL S8), the worked examples (MODEL P1 to P11)
 //! through sessions, the limit, the round trip of the notation, the examples,
 //! the orders of traps written a second time as the tables that they are (MODEL
-//! T1 to T6 and I1 to I6) with the causes of traps, the overflow flags against sums
-//! of 128 bits, and the counters that are off. Causes have a file of their own.
+//! T1 to T6 and I1 to I6) with the causes of traps, the overflow flags against
+//! sums of 128 bits, and the counters that are off. Causes have a file of their
+//! own, and so have accesses to PMSICR and the members of the sample population
+//! (MODEL J5 to J9).
 
 mod causes;
+mod pmsicr;
+mod sampling;
 
 use crate::generate::{self, Rng};
 use crate::model::{Answer, Machine, Move, Register};
@@ -141,8 +145,8 @@ fn notation_round_trip() {
     let mut rng = Rng::new(1, 2);
     for index in 0..4000u64 {
         let count = rng.below(80) as usize;
-        let mask = if rng.chance(50) { 0x07 } else { 0xFF };
-        let random: Vec<u8> = (0..count).map(|_| rng.next() as u8 & mask).collect();
+        let bytes = if rng.chance(50) { 9 } else { 256 };
+        let random: Vec<u8> = (0..count).map(|_| rng.below(bytes) as u8).collect();
         for bytes in [random, generate::session(3, index)] {
             assert_eq!(assemble(&disassemble(&bytes)), Ok(bytes));
         }
@@ -207,7 +211,7 @@ fn examples() {
 fn random_machine(rng: &mut Rng) -> Machine {
     loop {
         let mut machine = Machine::default();
-        for field in 0..=0x7F {
+        for field in 0..=0x8D {
             if let Some(largest) = Machine::largest(field) {
                 let value = match field {
                     0x00 => 1,
@@ -471,7 +475,7 @@ fn overflow_flags_have_no_bit_31() {
 /// Machines that no command makes.
 #[test]
 fn out_of_range() {
-    let changes: [(&str, fn(&mut Machine)); 9] = [
+    let changes: [(&str, fn(&mut Machine)); 11] = [
         ("level", |r| r.el = 4),
         ("N", |r| r.n = 32),
         ("HPMN", |r| r.hpmn = 32),
@@ -480,6 +484,8 @@ fn out_of_range() {
         ("flags above", |r| r.pmovs = 1 << 33),
         ("flags with bit 31", |r| r.pmovs = 1 << 31),
         ("flags with bits 31 and 32", |r| r.pmovs = 3 << 31),
+        ("NSPB", |r| r.nspb = 4),
+        ("NSPB with high bits", |r| r.nspb = 0x81),
         ("another refusal", |r| (r.pmovs, r.el2_enabled) = (1 << 31, true)),
     ];
     for (name, change) in changes {
@@ -491,9 +497,10 @@ fn out_of_range() {
         assert_eq!(machine.external_read(0xC80), Answer::Refused(10), "{name}");
         assert_eq!(machine.external_write(0xC80, u64::MAX), Answer::Refused(10), "{name}");
         assert_eq!(machine.tick(0), Answer::Refused(10), "{name}");
+        assert_eq!(machine.member(0), Answer::Refused(10), "{name}");
         assert_eq!(machine, before, "{name}");
     }
-    let mut machine = Machine { pmovs: 0x1_7FFF_FFFF, ..Machine::default() };
+    let mut machine = Machine { pmovs: 0x1_7FFF_FFFF, nspb: 3, ..Machine::default() };
     assert_eq!(machine.tick(0), Answer::Ok);
 }
 

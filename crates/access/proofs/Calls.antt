@@ -114,6 +114,7 @@ module _ (call : MayGive) (exact : Exact call) where
         hpmn = calls-claim _ _ _ (noninterference .hpmn);
         pmuacr = calls-claim _ _ _ (noninterference .pmuacr);
         f0 = calls-claim _ _ _ (noninterference .f0);
+        sampling = calls-claim _ _ _ (noninterference .sampling);
       }
 
 -- a call of `access::step`: a result of which its contract holds, as the source states it

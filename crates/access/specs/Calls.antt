@@ -18,8 +18,9 @@ use Rattle.answer.specs.declared.Answer.{Answer}
 use Rattle.machine.specs.declared.Machine.{Machine}
 use Rattle.machine.specs.declared.Settings.{Settings}
 use Rattle.machine.specs.Machine.{withLevel}
-use Rattle.rules.specs.Isolation.{SameExcept, Kept, Named, Start, fromLevels, fromHpmn, withoutP, instructionCounter}
-use Rattle.rules.specs.Isolation.{hpmnHides, pmuacrHides, f0Hides}
+use Rattle.rules.specs.Isolation.{SameExcept, Kept, Named, Start, fromLevels}
+use Rattle.rules.specs.Isolation.{fromHpmn, withoutP, instructionCounter, samplingCounter}
+use Rattle.rules.specs.Isolation.{hpmnHides, pmuacrHides, f0Hides, always}
 use Rattle.rules.specs.Step.{Access, run}
 
 -- MODEL M10: an assertion of the logic, in the model m of the logic and of the machine, holds of some resource. Where it
@@ -72,7 +73,7 @@ CallsRun call =
     → (answers ≡ run accesses r .answers) × (after ≡ run accesses r .machine)
 
 -- MODEL M5, M6 and M10: what `Isolated` of specs/Isolation says of `run`, of two runs of calls: their answers are equal, so
--- are the records after them but for the counters named, and each run has kept those
+-- are the records after them but for the places named, and each run has kept those
 pub record AnsweredAlike (x : Named) (r₁ r₂ after₁ after₂ : Machine) (answers₁ answers₂ : List Answer) : Type 0 where
   pub answers : answers₁ ≡ answers₂
   pub same : SameExcept x after₁ after₂
@@ -93,8 +94,9 @@ CallsClaim call top named when =
     → Calls call accesses r₂ answers₂ after₂
     → AnsweredAlike (named (r₁ .settings)) r₁ r₂ after₁ after₂ answers₁ answers₂
 
--- MODEL M7 to M10: demand 3, whole, of the calls of a step
+-- MODEL M7 to M10 and M14: demand 3, whole, of the calls of a step
 pub record CallsNoninterference (call : MayGive) : Type 1 where
   pub hpmn : CallsClaim call 1 fromHpmn hpmnHides
   pub pmuacr : CallsClaim call 0 withoutP pmuacrHides
   pub f0 : CallsClaim call 0 instructionCounter f0Hides
+  pub sampling : CallsClaim call 0 samplingCounter always

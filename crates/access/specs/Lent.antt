@@ -9,7 +9,8 @@ use Rattle.machine.specs.declared.Settings.{Settings}
 use Rattle.machine.specs.declared.Values.{Values}
 use Rattle.machine.specs.Machine.{machineOf, withCounters, withValues}
 use Rattle.rules.specs.declared.Decision.{Decision}
-use Rattle.rules.specs.Apply.{apply}
+use Rattle.rules.specs.declared.Place.{Place}
+use Rattle.rules.specs.Apply.{valueAt, withValue, takenBy, shownBy, apply}
 use Rattle.access.specs.declared.Said.{Said}
 
 -- MODEL X4: what is said and what the counters then hold is the outcome; level, settings and event numbers stay with the
@@ -18,6 +19,17 @@ pub record Lent (o : Outcome) (said : Said) (after : List ℕ) : Type 0 where
   pub answer : said .answer ≡ o .answer
   pub values : said .values ≡ o .machine .values
   pub counters : after ≡ o .machine .counters
+
+-- MODEL X4: what MRS answers of a place, where the record has these settings, counters and values, whatever the rest of it
+abbrev pub Shown : Place → Settings → List ℕ → Values → ℕ → Type 0
+Shown p s c v y = (l : ℕ) (e : List ℕ) → y ≡ shownBy p s (valueAt p (machineOf l s e c v))
+
+-- MODEL X4: such a record after x is written to a place, with the counters c′ and the values v′
+abbrev pub Put : Place → ℕ → Settings → List ℕ → Values → List ℕ → Values → Type 0
+Put p x s c v c′ v′ =
+    (l : ℕ) (e : List ℕ)
+    → (c′ ≡ withValue p (takenBy p s x) (machineOf l s e c v) .counters)
+    × (v′ ≡ withValue p (takenBy p s x) (machineOf l s e c v) .values)
 
 -- MODEL X4: a decision applied to the record with these settings, event numbers, counters and values, whatever its level
 abbrev pub Applied : Decision → Settings → List ℕ → List ℕ → Values → Said → List ℕ → Type 0

@@ -1,7 +1,7 @@
 // The access: decide, by a view in which there is no counter, then apply. `lent` has the counters of a record lent and changed
 // there, and `lent_decoded` so of a word that is taken apart already; `step` takes and returns a record by value.
 ghost use mathlib.Core.Path.{_≡_};
-ghost use Rattle.access.specs.Lent.{Lent, Applied};
+ghost use Rattle.access.specs.Lent.{Lent, Shown, Put, Applied};
 ghost use Rattle.machine.specs.Machine.{machineOf};
 ghost use Rattle.rules.specs.Step.{step, stepDecoded};
 use answer::Answer;
@@ -19,6 +19,32 @@ pub struct Said {
     pub values: Values,
 }
 
+// What MRS answers of a place.
+fn shown(counters: &[u64], s: Settings, v: Values, place: Place) -> u64
+    ensures { λ y. ⌜ Shown place s (now (counters .entry)) v y ⌝ }
+{
+    match place {
+        Place::Counter(m) => counters::read(counters, m),
+        Place::Instructions => v.instructions,
+        Place::Interval => pmsicr::implemented(s.features.ernd, v.pmsicr),
+        Place::Nvmem => v.nvmem,
+    }
+}
+
+// A number written to a place. The event counters are lent, the other values are returned.
+fn put(counters: &mut [u64], s: Settings, v: Values, place: Place, x: u64) -> Values
+    ensures { λ after. ⌜ Put place x s (now (counters .entry)) v (now (counters .exit)) after ⌝ }
+{
+    let mut values = v;
+    match place {
+        Place::Counter(m) => counters::store(counters, s.features.p5, m, x),
+        Place::Instructions => values.instructions = x,
+        Place::Interval => values.pmsicr = pmsicr::implemented(s.features.ernd, x),
+        Place::Nvmem => values.nvmem = x,
+    }
+    values
+}
+
 // What was decided, done to the counters that are lent. The level plays no part.
 fn apply(d: Decision, counters: &mut [u64], events: &[u16], s: Settings, v: Values) -> Said
     ensures { λ said. ⌜ Applied d s (now (events .entry)) (now (counters .entry)) v said (now (counters .exit)) ⌝ }
@@ -28,38 +54,16 @@ fn apply(d: Decision, counters: &mut [u64], events: &[u16], s: Settings, v: Valu
             answer: a,
             values: v,
         },
-        Decision::Read { place, rt } => match place {
-            Place::Counter(m) => Said {
-                answer: Answer::Mrs {
-                    value: counters::read(counters, m),
-                    rt: rt,
-                },
-                values: v,
+        Decision::Read { place, rt } => Said {
+            answer: Answer::Mrs {
+                value: shown(counters, s, v, place),
+                rt: rt,
             },
-            Place::Instructions => Said {
-                answer: Answer::Mrs {
-                    value: v.instructions,
-                    rt: rt,
-                },
-                values: v,
-            },
+            values: v,
         },
-        Decision::Write { place, value } => match place {
-            Place::Counter(m) => {
-                counters::store(counters, s.features.p5, m, value);
-                Said {
-                    answer: Answer::Ok,
-                    values: v,
-                }
-            }
-            Place::Instructions => {
-                let mut values = v;
-                values.instructions = value;
-                Said {
-                    answer: Answer::Ok,
-                    values: values,
-                }
-            }
+        Decision::Write { place, value } => Said {
+            answer: Answer::Ok,
+            values: put(counters, s, v, place, value),
         },
         Decision::Add { mask } => {
             let mut values = v;

@@ -1,7 +1,8 @@
 -- The one table of refusal numbers, the one of the causes of traps, and the numbers of the levels.
 use Prim.Native.Nat.{ℕ}
 use Rattle.answer.specs.declared.Cause.{Cause}
-use Rattle.answer.specs.declared.Cause.the-variants.{Pmuserenr, FineGrained, Mdcr2Tpm, Hpmn, Mdcr3Tpm, EnPm2, FgtEn2}
+use Rattle.answer.specs.declared.Cause.the-variants.{Pmuserenr, FineGrained, Mdcr2Tpm, Hpmn}
+use Rattle.answer.specs.declared.Cause.the-variants.{Mdcr3Tpm, EnPm2, FgtEn2, Tpms, Nspb}
 use Rattle.answer.specs.declared.Level.{Level}
 use Rattle.answer.specs.declared.Level.the-variants.{El1, El2, El3}
 use Rattle.answer.specs.declared.Refusal.{Refusal}
@@ -75,3 +76,7 @@ causeNumber Mdcr3Tpm = 5
 causeNumber EnPm2 = 6
 -- MODEL D7: SCR_EL3.FGTEn2
 causeNumber FgtEn2 = 7
+-- MODEL D8: MDCR_EL2.TPMS
+causeNumber Tpms = 8
+-- MODEL D9: MDCR_EL3.NSPB
+causeNumber Nspb = 9

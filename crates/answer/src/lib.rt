@@ -29,7 +29,8 @@ pub enum Level {
 }
 
 // The control behind a trap (MODEL D): PMUSERENR_EL0, the fine-grained bit of the register and the direction, MDCR_EL2.TPM,
-// MDCR_EL2.HPMN, MDCR_EL3.TPM, MDCR_EL3.EnPM2 or SCR_EL3.FGTEn2. specs/Numbers.antt has the number of each.
+// MDCR_EL2.HPMN, MDCR_EL3.TPM, MDCR_EL3.EnPM2, SCR_EL3.FGTEn2, MDCR_EL2.TPMS or MDCR_EL3.NSPB. specs/Numbers.antt has the number
+// of each.
 pub enum Cause {
     Pmuserenr,
     FineGrained,
@@ -38,6 +39,8 @@ pub enum Cause {
     Mdcr3Tpm,
     EnPm2,
     FgtEn2,
+    Tpms,
+    Nspb,
 }
 
 // Where an access is trapped to, by which control, and the 32 bits of its syndrome.
@@ -47,10 +50,11 @@ pub struct Trap {
     pub syndrome: u32,
 }
 
-// All that a session's line shows behind its position. `Mrs` is the value of an access with its Rt, `Value` that of an
-// external read.
+// All that a session's line shows behind its position. `Sampled` is that of a member of the sample population that is selected,
+// `Mrs` the value of an access with its Rt, `Value` that of an external read.
 pub enum Answer {
     Ok,
+    Sampled,
     End,
     Undef,
     Other,
@@ -106,5 +110,7 @@ pub fn cause_number(c: Cause) -> u8
         Cause::Mdcr3Tpm => 5,
         Cause::EnPm2 => 6,
         Cause::FgtEn2 => 7,
+        Cause::Tpms => 8,
+        Cause::Nspb => 9,
     }
 }

@@ -6,7 +6,7 @@ use Rattle.bits.specs.Bits.{fromBits}
 use Rattle.fields.specs.Largest.{largest}
 use Rattle.fields.specs.Set.{set, setAll}
 use Rattle.state.specs.State.{viewOf, tooLarge, refusals, verdictOf}
-use Rattle.store.specs.Store.{store, storeSettings, storeFeatures, storeMdcr2, storePmuacr}
+use Rattle.store.specs.Store.{store, storeSettings, storeFeatures, storeMdcr2, storeMdcr3, storePmuacr, storeSampling}
 use Rattle.rules.specs.Word.{named, register, syndrome, decode, written}
 use Rattle.rules.specs.Traps.{disabledTarget, stopAtEl3, counterRules, icntrRules, rulesOf, stopOf}
 use Rattle.rules.specs.Permitted.{placeAccess, addMask}
@@ -20,7 +20,8 @@ use Rattle.causes.specs.Opening.{inTurn, allClosed, turnsActual, turnsEx
 -- MODEL D0 to D7: one control closed, and two
 pub examples-hold : map actual (single ++ pairs) ≡ map expected (single ++ pairs)
 unfolding
-    largest set setAll viewOf tooLarge refusals verdictOf store storeSettings storeFeatures storeMdcr2 storePmuacr
+    largest set setAll viewOf tooLarge refusals verdictOf store storeSettings storeFeatures storeMdcr2 storeMdcr3 storePmuacr
+    storeSampling
     named register syndrome decode written disabledTarget stopAtEl3 counterRules icntrRules rulesOf stopOf
     decideRegister decide apply step perform performAll usual start actual expected single pairs
 examples-hold = refl
@@ -33,7 +34,8 @@ settings-valid = refl
 -- MODEL D10 to D13: all controls closed, and opened one after the other as the causes name them
 pub turns-hold : map turnsActual turnExamples ≡ map turnsExpected turnExamples
 unfolding
-    largest set setAll viewOf tooLarge refusals verdictOf store storeSettings storeFeatures storeMdcr2 storePmuacr
+    largest set setAll viewOf tooLarge refusals verdictOf store storeSettings storeFeatures storeMdcr2 storeMdcr3 storePmuacr
+    storeSampling
     named register syndrome decode written disabledTarget stopAtEl3 counterRules icntrRules rulesOf stopOf
     placeAccess addMask raised incremented fromBits decideRegister decide apply step usual
     inTurn allClosed turnsActual turnsExpected turnExamples

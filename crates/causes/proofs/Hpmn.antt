@@ -21,18 +21,11 @@ use Rattle.state.proofs.Consistent.{numbersLarge, passed}
 use Rattle.state.specs.declared.Verdict.the-variants.{Consistent}
 use Rattle.state.specs.declared.View.{View}
 use Rattle.state.specs.State.{viewOf, tooLarge, refusals, verdictOf}
-use Rattle.store.specs.Store.{store, storeSettings, storeFeatures, storeMdcr2, storePmuacr}
+use Rattle.store.specs.Store.{store, storeSettings, storeFeatures, storeMdcr2, storeMdcr3, storePmuacr, storeSampling}
 use Rattle.causes.specs.Responsible.{opening, allows}
 use Rattle.causes.proofs.Rows.{Opens}
-use Rattle.causes.proofs.Opened.{Opened}
+use Rattle.causes.proofs.Opened.{Opened, replaced}
 use Rattle.causes.proofs.Tables.{hpmn-off}
-
--- one test of several in place of another
-replaced :
-    (a b c x y z u : Bool) → a || b || x || y || z || u ≡ false → c ≡ false → a || c || x || y || z || u ≡ false
-replaced true b c x y z u n e = absurd (true≢false n)
-replaced false true c x y z u n e = absurd (true≢false n)
-replaced false false c x y z u n e = rw e n
 
 -- a counter that is not undefined at once is below N, and N allows m + 1
 pub next-allowed :
@@ -64,8 +57,10 @@ module _ (r : Machine) (m h : ℕ) (read : Bool)
       (or-left (exceeds n 0x0C) (exceeds (v .settings .mdcr2 .hpmn) 0x27)
       (or-left _ (exceeds (v .settings .pmuacr .p) 0x32)
       (or-left _ (exceeds (v .settings .cnten) 0x34)
+      (or-left _ (exceeds (v .settings .mdcr3 .nspb) 0x88)
+      (or-left _ (exceeds (v .settings .sampling .reload) 0x8B)
       (or-left (numbersLarge v) (v .ovslarge)
-      (or-left (numbersLarge v || v .ovslarge) (ltb largestLevel (v .level)) (passed v consistent 0))))))
+      (or-left (numbersLarge v || v .ovslarge) (ltb largestLevel (v .level)) (passed v consistent 0))))))))
 
   -- so the set command is not refused
   abbrev u : Machine
@@ -75,16 +70,18 @@ module _ (r : Machine) (m h : ℕ) (read : Bool)
   unfolding largest
   fits = le-ltb 31 h (omega (arith, within, n-fits))
 
-  is-set : setAll (opening h Hpmn (Pmevcntr m) read) r ≡ u
+  is-set : setAll (opening (r .settings) h Hpmn (Pmevcntr m) read) r ≡ u
   unfolding set setAll largest
   is-set = ap (λ b. cond b (refused ValueTooLarge r) (done u) .machine) fits
 
   -- and the record stays consistent: rows 0, 3 and 4 look at HPMN
   still : verdictOf (viewOf u) ≡ Consistent
-  unfolding verdictOf refusals tooLarge viewOf store storeSettings storeFeatures storeMdcr2 storePmuacr
+  unfolding verdictOf refusals tooLarge viewOf store storeSettings storeFeatures storeMdcr2 storeMdcr3 storePmuacr storeSampling
   still =
       let p = passed v consistent in
-      let large = replaced (exceeds n 0x0C) (exceeds (v .settings .mdcr2 .hpmn) 0x27) (exceeds h 0x27) _ _ _ _ (p 0) fits in
+      let large =
+      replaced (exceeds n 0x0C) (exceeds (v .settings .mdcr2 .hpmn) 0x27) _ _ (exceeds (v .settings .mdcr3 .nspb) 0x88) _ _ _
+      (exceeds h 0x27) (exceeds (v .settings .mdcr3 .nspb) 0x88) (p 0) (λ e. fits) (λ e. e) in
       let at-most-n : ltb n h ≡ false = le-ltb n h within in
       let not-0 : eqb h 0 ≡ false = ne-eqb h 0 (λ e. omega (arith, e, above)) in
       rw (large, p 1, p 2, at-most-n, not-0, and-false (v .settings .features .el2), p 5, p 6, p 7)
@@ -100,7 +97,8 @@ module _ (r : Machine) (m h : ℕ) (read : Bool)
   order b = Opens Hpmn (rulesOf v (Pmevcntr m) read) (counterRules v (pmevcntrDisabled v read) (pmevcntrBit v read) b)
 
   opens : Opened Hpmn (Pmevcntr m) read v (viewOf u)
-  unfolding viewOf store storeSettings storeFeatures storeMdcr2 storePmuacr rulesOf counterRules disabledTarget stopAtEl3
+  unfolding viewOf store storeSettings storeFeatures storeMdcr2 storeMdcr3 storePmuacr storeSampling rulesOf counterRules
+      disabledTarget stopAtEl3
   opens =
       record {
         consistent = λ e. still;
@@ -110,5 +108,5 @@ module _ (r : Machine) (m h : ℕ) (read : Bool)
       }
 
   -- MODEL D4
-  pub hpmn-opened : Opened Hpmn (Pmevcntr m) read v (viewOf (setAll (opening h Hpmn (Pmevcntr m) read) r))
+  pub hpmn-opened : Opened Hpmn (Pmevcntr m) read v (viewOf (setAll (opening (r .settings) h Hpmn (Pmevcntr m) read) r))
   hpmn-opened = subst (λ o. Opened Hpmn (Pmevcntr m) read v (viewOf o)) (sym is-set) opens

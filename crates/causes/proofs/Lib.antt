@@ -4,6 +4,7 @@ pub mod Stopped
 pub mod Opened
 pub mod Tables
 pub mod Hpmn
+pub mod Nspb
 pub mod Cases
 pub mod Responsible
 pub mod Examples

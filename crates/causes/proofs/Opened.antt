@@ -1,12 +1,13 @@
 -- What opening a control leaves as it was: the record stays consistent, the access is as defined as before, and what is permitted
 -- does the same. What is left to show of each control is what becomes of the order of traps.
 use Prim.Native.Nat.{ℕ}
-use mathlib.Core.Bool.{Bool}
+use mathlib.Core.Bool.{Bool, false, _||_}
 use mathlib.Core.Path.{_≡_, refl, _∙_, ap}
 use Rattle.answer.specs.declared.Cause.{Cause}
+use Rattle.machine.proofs.Bools.{or-fails}
 use Rattle.rules.specs.declared.Instruction.{Instruction}
 use Rattle.rules.specs.declared.Register.{Register}
-use Rattle.rules.specs.declared.Register.the-variants.{Pmevcntr, Pmswinc, Pmicntr, Other}
+use Rattle.rules.specs.declared.Register.the-variants.{Pmevcntr, Pmswinc, Pmicntr, Pmsicr, Other}
 use Rattle.rules.specs.Permitted.{addMask}
 use Rattle.rules.specs.Step.{undefinedAtOnce, permitted}
 use Rattle.rules.specs.Traps.{rulesOf}
@@ -15,7 +16,7 @@ use Rattle.state.specs.declared.View.{View}
 use Rattle.state.specs.State.{tooLarge, refusals, verdictOf}
 use Rattle.causes.proofs.Rows.{Opens}
 
--- view v with EN, MDCR_EL2.TPM, MDCR_EL3, SCR_EL3 and the fine-grained bits of view w
+-- view v with EN, TPM and TPMS of MDCR_EL2, TPM and EnPM2 of MDCR_EL3, SCR_EL3 and the fine-grained bits of view w
 abbrev pub withControlsOf : View → View → View
 withControlsOf w v =
     let s = v .settings in
@@ -36,12 +37,20 @@ withControlsOf w v =
                   ir = s .pmuserenr .ir;
                 };
             hcr = s .hcr;
-            mdcr2 = record { tpm = u .mdcr2 .tpm; hpme = s .mdcr2 .hpme; hlp = s .mdcr2 .hlp; hpmn = s .mdcr2 .hpmn };
-            mdcr3 = u .mdcr3;
+            mdcr2 =
+                record {
+                  tpm = u .mdcr2 .tpm;
+                  hpme = s .mdcr2 .hpme;
+                  hlp = s .mdcr2 .hlp;
+                  tpms = u .mdcr2 .tpms;
+                  hpmn = s .mdcr2 .hpmn;
+                };
+            mdcr3 = record { tpm = u .mdcr3 .tpm; enpm2 = u .mdcr3 .enpm2; nspb = s .mdcr3 .nspb };
             scr = u .scr;
             hdfgrtr = u .hdfgrtr;
             hdfgwtr = u .hdfgwtr;
             pmuacr = s .pmuacr;
+            sampling = s .sampling;
             cnten = s .cnten;
             external = s .external;
           };
@@ -65,6 +74,7 @@ module _ (v w : View) where
   same-defined (Pmevcntr m) read = refl
   same-defined Pmswinc read = refl
   same-defined Pmicntr read = refl
+  same-defined Pmsicr read = refl
   same-defined Other read = refl
 
   same-permitted : (g : Register) (i : Instruction) (x : ℕ) → permitted (withControlsOf w v) g i x ≡ permitted v g i x
@@ -72,6 +82,7 @@ module _ (v w : View) where
   same-permitted (Pmevcntr m) i x = refl
   same-permitted Pmswinc i x = refl
   same-permitted Pmicntr i x = refl
+  same-permitted Pmsicr i x = refl
   same-permitted Other i x = refl
 
 -- where none but these has changed, the rows are what is left to show
@@ -85,3 +96,21 @@ by-rows c g read v w e o =
       permits = λ i x. ap (λ u. permitted u g i x) e ∙ same-permitted v w g i x;
       rows = o;
     }
+
+-- HPMN and NSPB by other numbers that fit: refusal 10 does not apply, as it did not before
+pub replaced :
+    (n h p c b l o e h′ b′ : Bool) → n || h || p || c || b || l || o || e ≡ false → (h ≡ false → h′ ≡ false)
+    → (b ≡ false → b′ ≡ false)
+    → n || h′ || p || c || b′ || l || o || e ≡ false
+replaced n h p c b l o e h′ b′ x y z =
+    let same : (a : Bool) → a ≡ false → a ≡ false = λ a k. k in
+    or-fails _ _ e e
+    (or-fails _ _ o o
+    (or-fails _ _ l l
+    (or-fails _ _ b b′
+    (or-fails _ _ c c (or-fails _ _ p p (or-fails n n h h′ (same n) y) (same p)) (same c))
+    z)
+    (same l))
+    (same o))
+    (same e)
+    x

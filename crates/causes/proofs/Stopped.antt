@@ -12,7 +12,7 @@ use Rattle.rules.specs.declared.Decision.the-variants.{Says, Read, Write}
 use Rattle.rules.specs.declared.Instruction.{Instruction}
 use Rattle.rules.specs.declared.Place.{Place}
 use Rattle.rules.specs.declared.Register.{Register}
-use Rattle.rules.specs.declared.Register.the-variants.{Pmevcntr, Pmswinc, Pmicntr, Other}
+use Rattle.rules.specs.declared.Register.the-variants.{Pmevcntr, Pmswinc, Pmicntr, Pmsicr, Other}
 use Rattle.rules.specs.declared.Stop.{Stop}
 use Rattle.rules.specs.Apply.{apply}
 use Rattle.rules.specs.Permitted.{placeAccess, denied, readOnly, deniedF0, readOnlyIr}
@@ -53,6 +53,7 @@ module _ (r : Machine) where
   quiet v (Pmevcntr m) i x = quiet-place (denied v m) (readOnly v) _ i x
   quiet v Pmswinc i x = refl
   quiet v Pmicntr i x = quiet-place (deniedF0 v) (readOnlyIr v) _ i x
+  quiet v Pmsicr i x = quiet-place false false _ i x
   quiet v Other i x = refl
 
   -- a trap that is answered is one that the order of traps says

@@ -1,6 +1,6 @@
 -- The command at the front of the bytes: a law for each way that its front-tests can go.
 use Prim.Native.Nat.{ℕ, suc, _-_, _<_, _≤_}
-use mathlib.Core.Bool.{cond}
+use mathlib.Core.Bool.{true, false, cond}
 use mathlib.Core.List.{List, [], _∷_}
 use mathlib.Core.Path.{_≡_, refl, _∙_}
 use native.Mathlib.Omega.{arith}
@@ -27,12 +27,14 @@ front-tests [] h = let z : ⊥ = omega arith in absurd z
 front-tests (c ∷ s) h = let e : suc (length s) - 1 ≡ length s = omega arith in rw e
 
 module _ (s : List ℕ) (filled : 0 < length s) where
-  pub front-unknown : 6 < getD s 0 0 → commandOf s ≡ Command.Bad UnknownCommand
-  front-unknown h = front-tests s filled ∙ rw (lt-ltb 6 (getD s 0 0) h)
+  pub front-unknown : isUnknown (getD s 0 0) ≡ true → commandOf s ≡ Command.Bad UnknownCommand
+  front-unknown h = front-tests s filled ∙ rw h
 
-  pub front-cut : getD s 0 0 ≤ 6 → length s - 1 < operandBytes (getD s 0 0) → commandOf s ≡ Command.Bad Truncated
-  front-cut k h = front-tests s filled ∙ rw (le-ltb 6 (getD s 0 0) k, lt-ltb (length s - 1) (operandBytes (getD s 0 0)) h)
+  pub front-cut :
+      isUnknown (getD s 0 0) ≡ false → length s - 1 < operandBytes (getD s 0 0) → commandOf s ≡ Command.Bad Truncated
+  front-cut k h = front-tests s filled ∙ rw (k, lt-ltb (length s - 1) (operandBytes (getD s 0 0)) h)
 
   pub front-whole :
-      getD s 0 0 ≤ 6 → operandBytes (getD s 0 0) ≤ length s - 1 → commandOf s ≡ commandWith (getD s 0 0) (drop 1 s)
-  front-whole k h = front-tests s filled ∙ rw (le-ltb 6 (getD s 0 0) k, le-ltb (length s - 1) (operandBytes (getD s 0 0)) h)
+      isUnknown (getD s 0 0) ≡ false → operandBytes (getD s 0 0) ≤ length s - 1
+      → commandOf s ≡ commandWith (getD s 0 0) (drop 1 s)
+  front-whole k h = front-tests s filled ∙ rw (k, le-ltb (length s - 1) (operandBytes (getD s 0 0)) h)

@@ -21,7 +21,7 @@ size-some [] h = let z : ⊥ = omega arith in absurd z
 size-some (c ∷ s) h = refl
 
 pub few-operands : (c : ℕ) → operandBytes c ≤ 12
-few-operands c = search (either (λ n. n ≤ 12), leb-true) depth 8
+few-operands c = search (either (λ n. n ≤ 12), leb-true) depth 9
 
 -- a command with n bytes of operands: if it is not the last, it has some
 HasOperands : Command → ℕ → Type 0
@@ -42,7 +42,7 @@ unfolding HasOperands
 end-operands e = absurd (true≢false e)
 
 with-operands : (c : ℕ) (s : List ℕ) → HasOperands (commandWith c s) (operandBytes c)
-with-operands c s = search (either-operands, operands, end-operands) depth 8
+with-operands c s = search (either-operands, operands, end-operands) depth 9
 
 -- past a command that is not the last
 pub size-bounds : (s : List ℕ) → isLast (commandOf s) ≡ false → (2 ≤ sizeAt s) × (sizeAt s ≤ length s)

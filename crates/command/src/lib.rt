@@ -16,6 +16,7 @@ pub enum Command {
     Read { offset: u16 },
     Write { offset: u16, value: u64 },
     Tick { prohibited: u8 },
+    Member { draw: u8 },
     Bad(Refusal),
 }
 
@@ -61,6 +62,7 @@ fn operand_bytes(c: u8) -> usize
         0x04 => 2,
         0x05 => 10,
         0x06 => 1,
+        0x08 => 1,
         _ => 0,
     }
 }
@@ -88,6 +90,7 @@ fn command_with(c: u8, t: &[u8]) -> Command
             value: eight(t, 3),
         },
         0x06 => Command::Tick { prohibited: t[1] },
+        0x08 => Command::Member { draw: t[1] },
         _ => Command::End,
     }
 }
@@ -100,7 +103,7 @@ pub fn command_of(t: &[u8]) -> Command
         return Command::Bad(Refusal::Truncated);
     }
     let c = t[0];
-    if 6 < c {
+    if (c == 0x07) | (0x08 < c) {
         return Command::Bad(Refusal::UnknownCommand);
     }
     if t.len() - 1 < operand_bytes(c) {

@@ -24,6 +24,7 @@ fn undefined_at_once(v: View, r: Register, read: bool) -> bool
         Register::Pmevcntr(m) => !has.pmuv3 | (has.n <= m),
         Register::Pmswinc => !has.pmuv3 | read,
         Register::Pmicntr => !has.icntr,
+        Register::Pmsicr => !has.spe | (v.level == 0),
         Register::Other => false,
     }
 }
@@ -36,6 +37,7 @@ fn stop_of(v: View, r: Register, read: bool) -> Stop
         Register::Pmevcntr(m) => traps::pmevcntr_stop(v, read, m),
         Register::Pmswinc => traps::pmswinc_stop(v),
         Register::Pmicntr => icntr::pmicntr_stop(v, read),
+        Register::Pmsicr => sicr::pmsicr_stop(v, read),
         Register::Other => Stop::Pass,
     }
 }

@@ -1,6 +1,6 @@
 // What a permitted access is to do (MODEL G), decided without a counter.
 ghost use mathlib.Core.Path.{_≡_};
-ghost use Rattle.rules.specs.Permitted.{placeAccess, pmuacrBinds, addMask};
+ghost use Rattle.rules.specs.Permitted.{placeAccess, pmuacrBinds, pmsicrPlace, addMask};
 ghost use Rattle.rules.specs.Step.{permitted};
 use crate::enabled;
 use answer::Answer;
@@ -60,6 +60,17 @@ fn add_mask(v: View, x: u64) -> u64
     accessible
 }
 
+// Where an access of PMSICR goes: to the word at 0x838 at EL1, with EL2 enabled and NV and NV2 both 1, else to the register.
+fn pmsicr_place(v: View) -> Place
+    ensures { λ p. ⌜ p ≡ pmsicrPlace v ⌝ }
+{
+    let s = v.settings;
+    if s.execution.el2enabled & (v.level == 1) & s.hcr.nv & s.hcr.nv2 {
+        return Place::Nvmem;
+    }
+    Place::Interval
+}
+
 // A permitted access of a register.
 pub fn permitted(v: View, r: Register, i: Instruction, x: u64) -> Decision
     ensures { λ d. ⌜ d ≡ permitted v r i x ⌝ }
@@ -86,6 +97,7 @@ pub fn permitted(v: View, r: Register, i: Instruction, x: u64) -> Decision
             i,
             x,
         ),
+        Register::Pmsicr => place_access(false, false, pmsicr_place(v), i, x),
         Register::Other => Decision::Says(Answer::Other),
     }
 }

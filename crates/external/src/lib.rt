@@ -1,11 +1,11 @@
-// External accesses and the tick: what is to be done, decided from a view in which there is no counter and no overflow flag,
-// and the doing.
+// External accesses, the tick and members of the sample population: what is to be done, decided from a view in which there is no
+// counter and no overflow flag, and the doing.
 mod reach; // reach.rt: how far an access at an offset gets
 
 ghost use mathlib.Core.Path.{_≡_};
 ghost use Rattle.store.specs.Store.{store};
-ghost use Rattle.rules.specs.External.{readOf, writeOf, tickOf, effectOf, ovsCounted, judge, enact};
-ghost use Rattle.rules.specs.External.{externalRead, externalWrite, tick};
+ghost use Rattle.rules.specs.External.{readOf, writeOf, tickOf, memberOf, effectOf, ovsCounted, sample, judge, enact};
+ghost use Rattle.rules.specs.External.{externalRead, externalWrite, tick, member};
 ghost use Rattle.state.specs.State.{viewOf};
 use answer::Answer;
 use machine::Machine;
@@ -59,6 +59,16 @@ fn tick_of(prohibited: bool, s: Settings) -> Effect
     Effect::Says(Answer::Ok)
 }
 
+// What a member of the sample population does.
+fn member_of(draw: u8, s: Settings) -> Effect
+    ensures { λ e. ⌜ e ≡ memberOf draw s ⌝ }
+{
+    if s.features.spe & s.sampling.profiling {
+        return Effect::Sample(draw);
+    }
+    Effect::Says(Answer::Ok)
+}
+
 // What is requested of a consistent record.
 fn effect_of(q: Request, s: Settings) -> Effect
     ensures { λ e. ⌜ e ≡ effectOf q s ⌝ }
@@ -67,6 +77,7 @@ fn effect_of(q: Request, s: Settings) -> Effect
         Request::Read(offset) => read_of(reach::reach(false, offset, s), s),
         Request::Write { offset, value } => write_of(reach::reach(true, offset, s), value, s),
         Request::Tick(prohibited) => tick_of(prohibited, s),
+        Request::Member(draw) => member_of(draw, s),
     }
 }
 
@@ -96,6 +107,29 @@ fn ovs_counted(y: u64, ovs: u64) -> u64
     ensures { λ o. ⌜ o ≡ ovsCounted y ovs ⌝ }
 {
     flags::raised(bits::pick(y == 0xFFFFFFFFFFFFFFFF, 0x100000000, 0), ovs)
+}
+
+// A member that counts.
+fn sample(draw: u8, mut r: Machine) -> Outcome
+    ensures { λ o. ⌜ o ≡ sample draw r ⌝ }
+{
+    let s = r.settings;
+    let mut values = r.values;
+    let ernd = s.features.ernd;
+    let reload = s.sampling.reload;
+    let m = pmsicr::counted(ernd, s.sampling.rnd, reload, draw as u64, values.pmsicr);
+    values.pmsicr = m.pmsicr;
+    r.values = values;
+    if m.selected {
+        return Outcome {
+            answer: Answer::Sampled,
+            machine: r,
+        };
+    }
+    Outcome {
+        answer: Answer::Ok,
+        machine: r,
+    }
 }
 
 // What an effect answers and does to the record.
@@ -146,10 +180,11 @@ fn enact(e: Effect, mut r: Machine) -> Outcome
                 machine: r,
             }
         }
+        Effect::Sample(draw) => sample(draw, r),
     }
 }
 
-// What a request answers and does to the record. The three calls below share this one, so that the compiled code has its parts
+// What a request answers and does to the record. The four calls below share this one, so that the compiled code has its parts
 // once, in one place.
 fn respond(q: Request, r: Machine) -> Outcome
     ensures { λ o. ⌜ o ≡ enact (judge (viewOf r) q) r ⌝ }
@@ -176,4 +211,11 @@ pub fn tick(prohibited: bool, r: Machine) -> Outcome
     ensures { λ o. ⌜ o ≡ tick prohibited r ⌝ }
 {
     respond(Request::Tick(prohibited), r)
+}
+
+// A member of the sample population, with a draw.
+pub fn member(draw: u8, r: Machine) -> Outcome
+    ensures { λ o. ⌜ o ≡ member draw r ⌝ }
+{
+    respond(Request::Member(draw), r)
 }

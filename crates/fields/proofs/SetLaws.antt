@@ -13,9 +13,9 @@ use Rattle.machine.proofs.Bools.{or-right}
 use Rattle.answer.specs.declared.Refusal.the-variants.{UnknownField, ValueTooLarge, LevelTooLarge}
 use Rattle.machine.specs.declared.Machine.{Machine}
 use Rattle.fields.specs.Largest.{largest, exceeds, largestLevel}
-use Rattle.machine.specs.Machine.{withLevel}
+use Rattle.machine.specs.Machine.{withLevel, withPmsicr}
 use Rattle.store.specs.Store.{store, storeSettings, storeList, storeValues}
-use Rattle.fields.specs.Set.{set, setLevel}
+use Rattle.fields.specs.Set.{pmsicrAfter, set, setLevel}
 use Rattle.machine.specs.Outcome.{refused, done}
 
 -- among the fields of the event numbers the largest value is 0xFFFF
@@ -54,20 +54,22 @@ module _ (f v : ℕ) (m : Machine) where
   unfolding set
   set-large n h = rw (lt-ltb 0 (largest f) (omega arith), h)
 
-  pub set-stored : (largest f ≡ 0 → ⊥) → exceeds v f ≡ false → set f v m ≡ done (store f v m)
+  pub set-stored :
+      (largest f ≡ 0 → ⊥) → exceeds v f ≡ false → set f v m ≡ done (withPmsicr (pmsicrAfter f v m) (store f v m))
   unfolding set
   set-stored n h = rw (lt-ltb 0 (largest f) (omega arith), h)
 
   -- the record that the code makes, where the event number has passed through 16 bits
   pub set-stores : (largest f ≡ 0 → ⊥) → exceeds v f ≡ false
       → done
+      (withPmsicr (pmsicrAfter f v m)
       (record {
         level = m .level;
         settings = storeSettings f v (m .settings);
         events = storeList 0x40 f (v % 65536) (m .events);
         counters = storeList 0x60 f v (m .counters);
         values = storeValues f v (m .values);
-      })
+      }))
       ≡ set f v m
   unfolding store
   set-stores n h = rw (event-fits f v (within-largest f v h) (m .events)) (sym (set-stored n h))

@@ -7,7 +7,7 @@ use Rattle.bits.specs.Bits.{bit}
 use Rattle.machine.specs.First.{first}
 use Rattle.store.specs.Store.{within}
 
--- MODEL F2 to F13 and F21: the numbers of the one-bit fields
+-- MODEL F2 to F13, F21 and F23: the numbers of the one-bit fields
 abbrev pub isFlag : ℕ → Bool
 isFlag f =
     leb f 0x0B
@@ -17,9 +17,12 @@ isFlag f =
     || eqb f 0x33
     || within 0x35 0x36 f
     || within 0x38 0x3E f
+    || within 0x80 0x87 f
+    || within 0x89 0x8A f
 
--- MODEL F2 to F16, F21 and F22: the kinds of fields, by their numbers, and the largest value of each: one bit; N and HPMN; the P
--- bits; the counter enables; the overflow flags; event numbers; counters
+-- MODEL F2 to F16, F21, F22, F23 and F24: the kinds of fields, by their numbers, and the largest value of each: one bit; N and
+-- HPMN; the P bits; the counter enables; the overflow flags; event numbers; NSPB; the reload value; counters, PMSICR_EL1 and the
+-- word at 0x838
 abbrev pub kinds : ℕ → List (Bool × ℕ)
 kinds f =
     (isFlag f, 1)
@@ -28,7 +31,9 @@ kinds f =
     ∷ (eqb f 0x34, 0x1FFFFFFFF)
     ∷ (eqb f 0x37, 0x17FFFFFFF)
     ∷ (within 0x40 0x5E f, 0xFFFF)
-    ∷ (within 0x60 0x7F f, 2 ^ 64 - 1)
+    ∷ (eqb f 0x88, 3)
+    ∷ (eqb f 0x8B, 0xFFFFFFFF)
+    ∷ (within 0x60 0x7F f || within 0x8C 0x8D f, 2 ^ 64 - 1)
     ∷ []
 
 -- MODEL F1 and F19: the largest value of the field with this number, and 0 where no field has it

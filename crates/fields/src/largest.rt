@@ -15,13 +15,17 @@ pub fn largest(f: u8) -> u64
         | ((0x28 <= f) & (f <= 0x31))
         | (f == 0x33)
         | ((0x35 <= f) & (f <= 0x36))
-        | ((0x38 <= f) & (f <= 0x3E));
+        | ((0x38 <= f) & (f <= 0x3E))
+        | ((0x80 <= f) & (f <= 0x87))
+        | ((0x89 <= f) & (f <= 0x8A));
     let count = (f == 0x0C) | (f == 0x27);
     let p_bits = f == 0x32;
     let enables = f == 0x34;
     let overflow_flags = f == 0x37;
     let event = (0x40 <= f) & (f <= 0x5E);
-    let counter = (0x60 <= f) & (f <= 0x7F);
+    let nspb = f == 0x88;
+    let reload = f == 0x8B;
+    let whole = ((0x60 <= f) & (f <= 0x7F)) | ((0x8C <= f) & (f <= 0x8D));
     if flag {
         return 1;
     }
@@ -40,7 +44,13 @@ pub fn largest(f: u8) -> u64
     if event {
         return 0xFFFF;
     }
-    if counter {
+    if nspb {
+        return 3;
+    }
+    if reload {
+        return 0xFFFFFFFF;
+    }
+    if whole {
         return 0xFFFFFFFFFFFFFFFF;
     }
     0

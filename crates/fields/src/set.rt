@@ -8,7 +8,7 @@ use machine::Machine;
 use machine::Outcome;
 
 // The set command: v to the field with number f. Refused with 3 where there is none, with 4 where v exceeds its largest value;
-// of the overflow flags, bit 31 counts as above it.
+// of the overflow flags, bit 31 counts as above it. Where it turns profiling on, with SPE, profiling begins.
 pub fn set(f: u8, v: u64, m: Machine) -> Outcome
     ensures { λ r. ⌜ r ≡ set f v m ⌝ }
 {
@@ -29,12 +29,17 @@ pub fn set(f: u8, v: u64, m: Machine) -> Outcome
     let events = m.events;
     let counters = m.counters;
     let values = m.values;
+    let turns_on = (f == 0x83) & (v == 1) & !settings.sampling.profiling & settings.features.spe;
+    let ernd = settings.features.ernd;
+    let begun = pmsicr::started(ernd, settings.sampling.reload, values.pmsicr);
+    let mut stored = store::values(values, f, v);
+    stored.pmsicr = bits::pick(turns_on, begun, stored.pmsicr);
     let machine = Machine {
         level: m.level,
         settings: store::settings(settings, f, v),
         events: store::events(events, f, v),
         counters: store::counters(counters, f, v),
-        values: store::values(values, f, v),
+        values: stored,
     };
     Outcome {
         answer: Answer::Ok,

@@ -4,7 +4,7 @@ use Prim.Native.String.{String}
 use mathlib.Core.List.{List, [], _∷_}
 use Rattle.answer.specs.declared.Answer.{Answer}
 use Rattle.answer.specs.declared.Cause.{Cause}
-use Rattle.answer.specs.declared.Cause.the-variants.{Pmuserenr, FineGrained, Mdcr2Tpm, Hpmn, Mdcr3Tpm, EnPm2, FgtEn2}
+use Rattle.answer.specs.declared.Cause.the-variants.{Pmuserenr, FineGrained, Mdcr2Tpm, Hpmn, Mdcr3Tpm, EnPm2, FgtEn2, Tpms, Nspb}
 use Rattle.answer.specs.declared.Level.{Level}
 use Rattle.answer.specs.declared.Level.the-variants.{El1, El2, El3}
 use Rattle.answer.specs.declared.Refusal.the-variants.{UnknownField, FeatureMissing}
@@ -17,6 +17,7 @@ trap l s c = Answer.Trap (record { target = l; cause = c; syndrome = s })
 unfoldable pub texts : List (Answer × String)
 texts =
     (Answer.Ok, "ok")
+    ∷ (Answer.Sampled, "sampled")
     ∷ (Answer.End, "end")
     ∷ (Answer.Undef, "undef")
     ∷ (Answer.Other, "other")
@@ -35,4 +36,6 @@ texts =
     ∷ (trap El3 0x6230E449 Mdcr3Tpm, "trap 3 6230E449 5")
     ∷ (trap El3 0x6230E449 EnPm2, "trap 3 6230E449 6")
     ∷ (trap El2 0x6230E449 FgtEn2, "trap 2 6230E449 7")
+    ∷ (trap El2 0x62342453 Tpms, "trap 2 62342453 8")
+    ∷ (trap El3 0x62342452 Nspb, "trap 3 62342452 9")
     ∷ []

@@ -8,6 +8,7 @@ use Rattle.text.specs.Text.{bytes, decimal, hex}
 -- MODEL L1: the text of an answer
 unfoldable pub textOf : Answer → List ℕ
 textOf Answer.Ok = bytes "ok"
+textOf Answer.Sampled = bytes "sampled"
 textOf Answer.End = bytes "end"
 textOf Answer.Undef = bytes "undef"
 textOf Answer.Other = bytes "other"

@@ -56,6 +56,7 @@ fn answer_text(out: &mut [u8], at: usize, a: Answer) -> usize
 {
     match a {
         Answer::Ok => text::bytes(out, at, b"ok"),
+        Answer::Sampled => text::bytes(out, at, b"sampled"),
         Answer::End => text::bytes(out, at, b"end"),
         Answer::Undef => text::bytes(out, at, b"undef"),
         Answer::Other => text::bytes(out, at, b"other"),

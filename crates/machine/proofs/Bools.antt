@@ -23,3 +23,8 @@ or-right false b e = e
 pub chosen : {A : Type 0} (P : A → Type 0) (b : Bool) (x y : A) → P x → P y → P (cond b x y)
 chosen P true x y p q = p
 chosen P false x y p q = q
+
+-- two tests that fail, where two others failed
+pub or-fails : (a a′ b b′ : Bool) → (a ≡ false → a′ ≡ false) → (b ≡ false → b′ ≡ false) → a || b ≡ false → a′ || b′ ≡ false
+or-fails false a′ b b′ p q e = rw (p refl) (q e)
+or-fails true a′ b b′ p q e = cc

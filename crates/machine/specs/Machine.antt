@@ -24,10 +24,12 @@ freshFeatures =
       el2 = false;
       el3 = false;
       el3prio = false;
+      spe = false;
+      ernd = false;
       n = 0;
     }
 
--- MODEL F2 to F13, F18 and F21: the settings of the fresh record
+-- MODEL F2 to F13, F18, F21 and F23: the settings of the fresh record
 abbrev pub freshSettings : Settings
 freshSettings =
     record {
@@ -35,20 +37,21 @@ freshSettings =
       execution = record { el2enabled = false; halted = false; sdd = false };
       pmcr = record { e = false; lp = false };
       pmuserenr = record { en = false; sw = false; er = false; uen = false; ir = false };
-      hcr = record { e2h = false; tge = false };
-      mdcr2 = record { tpm = false; hpme = false; hlp = false; hpmn = 0 };
-      mdcr3 = record { tpm = false; enpm2 = false };
-      scr = record { fgten = false; fgten2 = false };
-      hdfgrtr = record { pmevcntrn = false; npmicntr = false };
-      hdfgwtr = record { pmevcntrn = false; pmswinc = false; npmicntr = false };
+      hcr = record { e2h = false; tge = false; nv = false; nv2 = false };
+      mdcr2 = record { tpm = false; hpme = false; hlp = false; tpms = false; hpmn = 0 };
+      mdcr3 = record { tpm = false; enpm2 = false; nspb = 0 };
+      scr = record { fgten = false; fgten2 = false; ns = false };
+      hdfgrtr = record { pmevcntrn = false; pmsicr = false; npmicntr = false };
+      hdfgwtr = record { pmevcntrn = false; pmswinc = false; pmsicr = false; npmicntr = false };
       pmuacr = record { p = 0; f0 = false };
+      sampling = record { rnd = false; profiling = false; reload = 0 };
       cnten = 0;
       external = record { powered = false; doublelock = false; oslock = false; allowed = false; softwarelock = false };
     }
 
--- MODEL F16, F18 and F22: the values of the fresh record beside the event counters
+-- MODEL F16, F18, F22 and F24: the values of the fresh record beside the event counters
 abbrev pub freshValues : Values
-freshValues = record { instructions = 0; ovs = 0 }
+freshValues = record { instructions = 0; ovs = 0; pmsicr = 0; nvmem = 0 }
 
 -- MODEL F18: the fresh record, in which all is 0
 abbrev pub fresh : Machine
@@ -73,14 +76,30 @@ withLevel l m = machineOf l (m .settings) (m .events) (m .counters) (m .values)
 abbrev pub withCounters : List ℕ → Machine → Machine
 withCounters c m = machineOf (m .level) (m .settings) (m .events) c (m .values)
 
--- MODEL F16 and F22: the record with these values beside the event counters
+-- MODEL F16, F22 and F24: the record with these values beside the event counters
 abbrev pub withValues : Values → Machine → Machine
 withValues v m = machineOf (m .level) (m .settings) (m .events) (m .counters) v
 
 -- MODEL F16: the record with this instruction counter
 abbrev pub withInstructions : ℕ → Machine → Machine
-withInstructions i m = withValues (record { instructions = i; ovs = m .values .ovs }) m
+withInstructions i m =
+    let v = m .values in
+    withValues (record { instructions = i; ovs = v .ovs; pmsicr = v .pmsicr; nvmem = v .nvmem }) m
 
 -- MODEL F22: the record with these overflow flags
 abbrev pub withOvs : ℕ → Machine → Machine
-withOvs o m = withValues (record { instructions = m .values .instructions; ovs = o }) m
+withOvs o m =
+    let v = m .values in
+    withValues (record { instructions = v .instructions; ovs = o; pmsicr = v .pmsicr; nvmem = v .nvmem }) m
+
+-- MODEL F24: the record with this PMSICR_EL1
+abbrev pub withPmsicr : ℕ → Machine → Machine
+withPmsicr x m =
+    let v = m .values in
+    withValues (record { instructions = v .instructions; ovs = v .ovs; pmsicr = x; nvmem = v .nvmem }) m
+
+-- MODEL F24: the record with this word at 0x838
+abbrev pub withNvmem : ℕ → Machine → Machine
+withNvmem x m =
+    let v = m .values in
+    withValues (record { instructions = v .instructions; ovs = v .ovs; pmsicr = v .pmsicr; nvmem = x }) m

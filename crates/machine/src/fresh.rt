@@ -22,6 +22,7 @@ pub fn fresh() -> Machine
             hdfgrtr: crate::FRESH_HDFGRTR,
             hdfgwtr: crate::FRESH_HDFGWTR,
             pmuacr: crate::FRESH_PMUACR,
+            sampling: crate::FRESH_SAMPLING,
             cnten: 0,
             external: crate::FRESH_EXTERNAL,
         },

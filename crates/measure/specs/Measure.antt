@@ -24,6 +24,7 @@ accessOf x c = record { level = c / 2 ^ 32 % 4; word = c % 2 ^ 32; operand = x }
 -- MODEL X5: what an answer adds to the sum
 abbrev pub worth : Answer → ℕ
 worth Answer.Ok = 1
+worth Answer.Sampled = 0
 worth Answer.End = 0
 worth Answer.Undef = 0
 worth Answer.Other = 0

@@ -27,6 +27,7 @@ pub fn worth(a: Answer) -> u64
 {
     match a {
         Answer::Ok => 1,
+        Answer::Sampled => 0,
         Answer::End => 0,
         Answer::Undef => 0,
         Answer::Other => 0,

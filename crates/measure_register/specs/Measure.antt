@@ -9,6 +9,7 @@ abbrev pub worth : Register → ℕ
 worth (Register.Pmevcntr m) = m
 worth Register.Pmswinc = 32
 worth Register.Pmicntr = 33
+worth Register.Pmsicr = 35
 worth Register.Other = 34
 
 -- MODEL X9: an entry as a word: bits 31:0

@@ -11,6 +11,7 @@ fn worth(r: Register) -> u64
         Register::Pmevcntr(m) => m,
         Register::Pmswinc => 32,
         Register::Pmicntr => 33,
+        Register::Pmsicr => 35,
         Register::Other => 34,
     }
 }

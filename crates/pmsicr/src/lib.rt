@@ -1,5 +1,5 @@
 // PMSICR_EL1 as a number: its two counters, which of its bits are implemented, and what becomes of it when profiling begins and
-// for a member of the sample population (MODEL C).
+// for a member of the sample population (MODEL J).
 ghost use mathlib.Core.Path.{_≡_};
 ghost use Rattle.pmsicr.specs.Pmsicr.{secondary, implemented, withPrimary, withSecondary, started};
 ghost use Rattle.pmsicr.specs.Pmsicr.{secondaryCounts, primaryCounts, counted};

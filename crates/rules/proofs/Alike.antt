@@ -14,9 +14,9 @@ use Rattle.state.specs.State.{viewOf}
 use Rattle.rules.specs.declared.Decision.{Decision}
 use Rattle.rules.specs.declared.Decision.the-variants.{Says, Read, Write, Add}
 use Rattle.rules.specs.declared.Place.{Place}
-use Rattle.rules.specs.declared.Place.the-variants.{Counter, Instructions}
+use Rattle.rules.specs.declared.Place.the-variants.{Counter, Instructions, Interval, Nvmem}
 use Rattle.rules.specs.Overflow.{raised}
-use Rattle.rules.specs.Apply.{overflows, valueAt, apply}
+use Rattle.rules.specs.Apply.{overflows, valueAt, shownBy, apply}
 use Rattle.rules.specs.Isolation.{Named, isPlace, samePlace, SameExcept, Kept}
 use Rattle.rules.proofs.Applied.{
   Has,
@@ -67,6 +67,8 @@ view-alike a =
 has : {r : Machine} → Sound r → (p : Place) → isPlace p ≡ true → Has r p
 has s (Counter m) e = omega (arith, leb-true m 30 e, s .sized)
 has s Instructions e = tt
+has s Interval e = tt
+has s Nvmem e = tt
 
 -- past the 31 counters nothing is held
 past : {r₁ r₂ : Machine} → Sound r₁ → Sound r₂ → (p : Place) → isPlace p ≡ false → valueAt p r₁ ≡ valueAt p r₂
@@ -74,6 +76,8 @@ past {r₁} {r₂} s t (Counter m) e =
     List·getD-eq-default (r₁ .counters) 0 (omega (arith, leb-false m 30 e, s .sized))
     ∙ sym (List·getD-eq-default (r₂ .counters) 0 (omega (arith, leb-false m 30 e, t .sized)))
 past s t Instructions e = cc
+past s t Interval e = cc
+past s t Nvmem e = cc
 
 -- a place that is not named, also past the 31 counters
 not-named : {x : Named} {r₁ r₂ : Machine} → Alike x r₁ r₂ → (p : Place) → x p ≡ false → valueAt p r₁ ≡ valueAt p r₂
@@ -91,13 +95,15 @@ unnamed false h e = refl
 same-self : (p : Place) → samePlace p p ≡ true
 same-self (Counter m) = eq-eqb m m refl
 same-self Instructions = refl
+same-self Interval = refl
+same-self Nvmem = refl
 
 module _ (x : Named) (r₁ r₂ : Machine) (a : Alike x r₁ r₂) where
   pub answers-alike : (d : Decision) → Hides x d → apply d r₁ .answer ≡ apply d r₂ .answer
   unfolding apply
   answers-alike (Says b) h = refl
   answers-alike (Read p rt) h =
-      ap (λ y. Answer.Mrs y rt) (not-named a p (unnamed (x p) (h p) (same-self p)))
+      λ i. Answer.Mrs (shownBy p (a .same .settings i) (not-named a p (unnamed (x p) (h p) (same-self p)) i)) rt
   answers-alike (Write p y) h = refl
   answers-alike (Add mask) h = refl
 

@@ -16,7 +16,7 @@ use Rattle.state.specs.State.{anyWide, viewOf}
 use Rattle.rules.specs.declared.Decision.{Decision}
 use Rattle.rules.specs.declared.Decision.the-variants.{Says, Read, Write, Add}
 use Rattle.rules.specs.declared.Place.{Place}
-use Rattle.rules.specs.declared.Place.the-variants.{Counter, Instructions}
+use Rattle.rules.specs.declared.Place.the-variants.{Counter, Instructions, Interval, Nvmem}
 use Rattle.rules.specs.Overflow.{width, plusOne}
 use Rattle.rules.specs.Apply.{added, incremented, valueAt, withValue, takenBy, apply}
 use Rattle.rules.specs.Isolation.{samePlace}
@@ -29,27 +29,47 @@ module _ (x : ℕ) (r : Machine) where
   put-rest : (p : Place) → withValue p x r ≡ withCounters (withValue p x r .counters) (withValues (withValue p x r .values) r)
   put-rest (Counter m) = refl
   put-rest Instructions = refl
+  put-rest Interval = refl
+  put-rest Nvmem = refl
 
   pub put-ovs : (p : Place) → withValue p x r .values .ovs ≡ r .values .ovs
   put-ovs (Counter m) = refl
   put-ovs Instructions = refl
+  put-ovs Interval = refl
+  put-ovs Nvmem = refl
 
   put-length : (p : Place) → length (withValue p x r .counters) ≡ length (r .counters)
   put-length (Counter m) = simp length-set
   put-length Instructions = refl
+  put-length Interval = refl
+  put-length Nvmem = refl
 
 -- the record has the place
 abbrev pub Has : Machine → Place → Type 0
 Has r (Counter m) = m < length (r .counters)
 Has r Instructions = Unit {0}
+Has r Interval = Unit {0}
+Has r Nvmem = Unit {0}
 
 -- what a place holds where some place was given another value
 put-value :
     (p q : Place) (x : ℕ) (r : Machine) → Has r q → valueAt q (withValue p x r) ≡ cond (samePlace p q) x (valueAt q r)
 put-value (Counter m) (Counter n) x r h = getD-set (r .counters) m x n h
 put-value (Counter m) Instructions x r h = refl
+put-value (Counter m) Interval x r h = refl
+put-value (Counter m) Nvmem x r h = refl
 put-value Instructions (Counter n) x r h = refl
 put-value Instructions Instructions x r h = refl
+put-value Instructions Interval x r h = refl
+put-value Instructions Nvmem x r h = refl
+put-value Interval (Counter n) x r h = refl
+put-value Interval Instructions x r h = refl
+put-value Interval Interval x r h = refl
+put-value Interval Nvmem x r h = refl
+put-value Nvmem (Counter n) x r h = refl
+put-value Nvmem Instructions x r h = refl
+put-value Nvmem Interval x r h = refl
+put-value Nvmem Nvmem x r h = refl
 
 -- the record afterwards: counters and values may be new, the rest is as it was
 pub rest-stays :
@@ -82,6 +102,8 @@ length-stays (Add mask) r = length-mapFrom _ 0 (r .counters)
 addedAt : Bool → List ℕ → ℕ → Place → ℕ → ℕ
 addedAt p5 e mask (Counter m) y = incremented p5 e mask m y
 addedAt p5 e mask Instructions y = y
+addedAt p5 e mask Interval y = y
+addedAt p5 e mask Nvmem y = y
 
 -- what a place holds after a decision, from what it held before
 pub effect : Settings → List ℕ → Decision → Place → ℕ → ℕ
@@ -99,6 +121,8 @@ value-after (Read q rt) r p h = refl
 value-after (Write q x) r p h = put-value q p (takenBy q (r .settings) x) r h
 value-after (Add mask) r (Counter n) h = getD-mapFrom _ (r .counters) n h
 value-after (Add mask) r Instructions h = refl
+value-after (Add mask) r Interval h = refl
+value-after (Add mask) r Nvmem h = refl
 
 -- a place that the decision does not touch holds what it held
 pub untouched :
@@ -109,6 +133,8 @@ untouched s e (Read q rt) p y n = refl
 untouched s e (Write q x) p y n = rw n
 untouched s e (Add mask) (Counter m) y n = rw n
 untouched s e (Add mask) Instructions y n = refl
+untouched s e (Add mask) Interval y n = refl
+untouched s e (Add mask) Nvmem y n = refl
 
 -- a number taken modulo 2^32 is not wide
 narrow-mod : (x : ℕ) → leb (2 ^ 32) (x % 2 ^ 32) ≡ false
@@ -131,6 +157,8 @@ narrow-put :
     → anyWide (withValue p (takenBy p (r .settings) x) r .counters) ≡ false
 narrow-put (Counter m) x r p n = narrow-set (r .counters) m _ (rw p (narrow-mod x)) n
 narrow-put Instructions x r p n = n
+narrow-put Interval x r p n = n
+narrow-put Nvmem x r p n = n
 
 -- where p5 is missing, no counter becomes wide
 pub narrow-stays :

@@ -1,5 +1,5 @@
--- No decision touches a named counter, for each of the three claims: counters from HPMN on, counters without their P bit, and
--- the instruction counter without F0.
+-- No decision touches a named place, for each of the four claims: counters from HPMN on, counters without their P bit, the
+-- instruction counter without F0, and PMSICR with the word at 0x838.
 use Prim.Native.Nat.{ℕ}
 use mathlib.Core.Bool.{Bool, true, false, not, _&&_, or-true, and-false}
 use mathlib.Core.Path.{_≡_, refl, _∙_, ap}
@@ -7,18 +7,30 @@ use borrow.Author.Tests.{eqb-true}
 use lib.Dec.{leb, eqb}
 use Rattle.bits.specs.Bits.{bit}
 use Rattle.bits.proofs.FromBits.{bit-off}
+use Rattle.machine.proofs.Bools.{chosen}
 use Rattle.state.specs.declared.View.{View}
 use Rattle.rules.specs.declared.Instruction.{Instruction}
-use Rattle.rules.specs.declared.Place.the-variants.{Counter, Instructions}
+use Rattle.rules.specs.declared.Place.{Place}
+use Rattle.rules.specs.declared.Place.the-variants.{Counter, Instructions, Interval, Nvmem}
 use Rattle.rules.specs.declared.Register.{Register}
-use Rattle.rules.specs.declared.Register.the-variants.{Pmevcntr, Pmswinc, Pmicntr, Other}
+use Rattle.rules.specs.declared.Register.the-variants.{Pmevcntr, Pmswinc, Pmicntr, Pmsicr, Other}
 use Rattle.rules.specs.Word.{decode, written}
 use Rattle.rules.specs.Traps.{inaccessible, counterRules, pmevcntrDisabled, pmevcntrBit, rulesOf, stopOf}
 use Rattle.rules.specs.Ranges.{counterEnabled}
 use Rattle.rules.specs.Permitted.{denied, readOnly, deniedF0, readOnlyIr, ignored, addMask, pmswincAccess}
+use Rattle.rules.specs.Permitted.{redirected, pmsicrPlace, pmsicrAccess}
+use Rattle.rules.specs.Isolation.{samePlace}
 use Rattle.rules.specs.Step.{undefinedAtOnce, permitted, decideRegister, decide}
-use Rattle.rules.proofs.Touches.{touches, other-place, denied-place}
+use Rattle.rules.proofs.Touches.{inMask, touches, other-place, denied-place}
 use Rattle.rules.proofs.Touches.{through-cond, through-register, through-decide, stopped-by}
+
+-- an access of PMSICR touches no place of another kind
+pmsicr-elsewhere :
+    (p : Place) (v : View) (i : Instruction) (x : ℕ) → samePlace Interval p ≡ false → samePlace Nvmem p ≡ false
+    → touches p (pmsicrAccess v i x) ≡ false
+pmsicr-elsewhere p v i x a b =
+    other-place p false false (pmsicrPlace v) i x
+    (chosen (λ q. samePlace q p ≡ false) (redirected v) Nvmem Interval b a)
 
 -- event counter n is touched only through PMEVCNTR<n> and PMSWINC
 module _ (v : View) (n : ℕ) (w x : ℕ) where
@@ -42,6 +54,8 @@ module _ (v : View) (n : ℕ) (w x : ℕ) where
       go Pmicntr =
           through-register (Counter n) v Pmicntr (decode w) x
           (other-place (Counter n) (deniedF0 v) (readOnlyIr v) Instructions (decode w) x refl)
+      go Pmsicr =
+          through-register (Counter n) v Pmsicr (decode w) x (pmsicr-elsewhere (Counter n) v (decode w) x refl refl)
       go Other = through-register (Counter n) v Other (decode w) x refl
 
   -- PMSWINC does not touch a counter whose bit is ignored
@@ -95,8 +109,29 @@ module _ (v : View) (el0 : eqb (v .level) 0 ≡ true) (f0 : v .settings .pmuacr 
   no-register (Pmevcntr m) i x = other-place Instructions (denied v m) (readOnly v) (Counter m) i x refl
   no-register Pmswinc i x = refl
   no-register Pmicntr i x = denied-place Instructions (deniedF0 v) (readOnlyIr v) Instructions i x (rw (el0, f0))
+  no-register Pmsicr i x = pmsicr-elsewhere Instructions v i x refl refl
   no-register Other i x = refl
 
   pub f0-hidden : (w x : ℕ) → touches Instructions (decide v w x) ≡ false
   f0-hidden w x =
       through-decide Instructions v w x (λ r. through-register Instructions v r (decode w) x (no-register r (decode w) x))
+
+-- from EL0 no decision touches a place that is no counter of these two kinds, in which no mask has a bit: PMSICR is undefined
+module _
+    (v : View) (el0 : eqb (v .level) 0 ≡ true) (p : Place) (counter : (m : ℕ) → samePlace (Counter m) p ≡ false)
+    (instructions : samePlace Instructions p ≡ false) (mask : (n : ℕ) → inMask n p ≡ false) where
+  undefined : (i : Instruction) (x : ℕ) → touches p (decideRegister v Pmsicr i x) ≡ false
+  unfolding decideRegister
+  undefined i x = rw (el0, or-true) refl
+
+  sampling-untouched : (r : Register) (i : Instruction) (x : ℕ) → touches p (decideRegister v r i x) ≡ false
+  sampling-untouched (Pmevcntr m) i x =
+      through-register p v (Pmevcntr m) i x (other-place p (denied v m) (readOnly v) (Counter m) i x (counter m))
+  sampling-untouched Pmswinc i x = through-register p v Pmswinc i x (mask _)
+  sampling-untouched Pmicntr i x =
+      through-register p v Pmicntr i x (other-place p (deniedF0 v) (readOnlyIr v) Instructions i x instructions)
+  sampling-untouched Pmsicr i x = undefined i x
+  sampling-untouched Other i x = through-register p v Other i x refl
+
+  pub sampling-hidden : (w x : ℕ) → touches p (decide v w x) ≡ false
+  sampling-hidden w x = through-decide p v w x (λ r. sampling-untouched r (decode w) x)

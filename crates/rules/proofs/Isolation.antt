@@ -1,6 +1,6 @@
--- Demand 3: two machines that differ only in counters hidden from EL0, or from EL0 and EL1, answer every list of accesses from
--- there alike and keep those counters. One induction over the list, over any set of named places that no decision touches;
--- then the three claims, and the same of two consistent machines.
+-- Demand 3: two machines that differ only in what is hidden from EL0, or from EL0 and EL1, answer every list of accesses from
+-- there alike and keep that. One induction over the list, over any set of named places that no decision touches;
+-- then the four claims, and the same of two consistent machines.
 use Prim.Native.Nat.{ℕ}
 use mathlib.Core.Bool.{Bool, true, not, _&&_}
 use mathlib.Core.List.{List, [], _∷_}
@@ -18,14 +18,15 @@ use Rattle.state.proofs.Consistent.{not-wide, consistent-at-0}
 use Rattle.machine.proofs.Bools.{and-left, and-right}
 use Rattle.rules.specs.declared.Decision.{Decision}
 use Rattle.rules.specs.Isolation.{Named, Kept, Start, ConsistentMachine, fromLevels, Isolated, Claim, Noninterference}
-use Rattle.rules.specs.Isolation.{fromHpmn, withoutP, instructionCounter, hpmnHides, pmuacrHides, f0Hides}
+use Rattle.rules.specs.Isolation.{fromHpmn, withoutP, instructionCounter, samplingCounter}
+use Rattle.rules.specs.Isolation.{hpmnHides, pmuacrHides, f0Hides, always}
 use Rattle.rules.specs.declared.Place.{Place}
-use Rattle.rules.specs.declared.Place.the-variants.{Counter, Instructions}
+use Rattle.rules.specs.declared.Place.the-variants.{Counter, Instructions, Interval, Nvmem}
 use Rattle.rules.specs.Apply.{valueAt, apply}
 use Rattle.rules.specs.Step.{Access, decide, step, access, run}
 use Rattle.rules.proofs.Alike.{Sound, Alike, Hides, view-alike, answers-alike, stays-alike, kept-by}
 use Rattle.rules.proofs.Applied.{settings-stay}
-use Rattle.rules.proofs.Hidden.{hpmn-hidden, pmuacr-hidden, f0-hidden}
+use Rattle.rules.proofs.Hidden.{hpmn-hidden, pmuacr-hidden, f0-hidden, sampling-hidden}
 
 start-sound : {r : Machine} → Start r → Sound r
 unfolding viewOf
@@ -35,6 +36,8 @@ start-sound {r} s = record { sized = s .sized; narrow = not-wide (viewOf (withLe
 unlevelled : (l : ℕ) (r : Machine) (p : Place) → valueAt p (withLevel l r) ≡ valueAt p r
 unlevelled l r (Counter m) = refl
 unlevelled l r Instructions = refl
+unlevelled l r Interval = refl
+unlevelled l r Nvmem = refl
 
 -- the level put to an access's own
 at-level : (l : ℕ) {x : Named} {r₁ r₂ : Machine} → Alike x r₁ r₂ → Alike x (withLevel l r₁) (withLevel l r₂)
@@ -139,16 +142,28 @@ all-three a b c e =
 hpmn-hides : HidesAll 1 fromHpmn hpmnHides
 hpmn-hides v e low w y (Counter m) n = hpmn-hidden v m e low n w y
 hpmn-hides v e low w y Instructions n = cc
+hpmn-hides v e low w y Interval n = cc
+hpmn-hides v e low w y Nvmem n = cc
 
 pmuacr-hides : HidesAll 0 withoutP pmuacrHides
 pmuacr-hides v e low w y (Counter m) n =
     let t = all-three (v .settings .features .p9) (v .settings .pmuserenr .uen) (not (v .settings .pmuserenr .sw)) e in
     pmuacr-hidden v m (el0 (v .level) low) (t .0) (t .1) (not-true _ (t .2)) n w y
 pmuacr-hides v e low w y Instructions n = cc
+pmuacr-hides v e low w y Interval n = cc
+pmuacr-hides v e low w y Nvmem n = cc
 
 f0-hides : HidesAll 0 instructionCounter f0Hides
 f0-hides v e low w y (Counter m) n = cc
 f0-hides v e low w y Instructions n = f0-hidden v (el0 (v .level) low) (not-true _ e) w y
+f0-hides v e low w y Interval n = cc
+f0-hides v e low w y Nvmem n = cc
+
+sampling-hides : HidesAll 0 samplingCounter always
+sampling-hides v e low w y (Counter m) n = cc
+sampling-hides v e low w y Instructions n = cc
+sampling-hides v e low w y Interval n = sampling-hidden v (el0 (v .level) low) Interval (λ m. refl) refl (λ k. refl) w y
+sampling-hides v e low w y Nvmem n = sampling-hidden v (el0 (v .level) low) Nvmem (λ m. refl) refl (λ k. refl) w y
 
 -- demand 3
 pub noninterference : Noninterference Start
@@ -157,6 +172,7 @@ noninterference =
       hpmn = claim 1 fromHpmn hpmnHides hpmn-hides;
       pmuacr = claim 0 withoutP pmuacrHides pmuacr-hides;
       f0 = claim 0 instructionCounter f0Hides f0-hides;
+      sampling = claim 0 samplingCounter always sampling-hides;
     }
 
 -- a machine that is consistent at any level meets the start condition
@@ -176,4 +192,5 @@ consistent-noninterference =
       hpmn = of-consistent _ _ _ (noninterference .hpmn);
       pmuacr = of-consistent _ _ _ (noninterference .pmuacr);
       f0 = of-consistent _ _ _ (noninterference .f0);
+      sampling = of-consistent _ _ _ (noninterference .sampling);
     }

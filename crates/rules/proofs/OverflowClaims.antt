@@ -20,7 +20,7 @@ use Rattle.state.specs.State.{viewOf}
 use Rattle.state.proofs.Consistent.{ovs-fits}
 use Rattle.rules.specs.declared.Decision.{Decision}
 use Rattle.rules.specs.declared.Decision.the-variants.{Says, Read, Write, Add}
-use Rattle.rules.specs.declared.Place.the-variants.{Counter, Instructions}
+use Rattle.rules.specs.declared.Place.the-variants.{Counter, Instructions, Interval, Nvmem}
 use Rattle.rules.specs.Overflow.{flagBits, raised, carries, overflowWidth}
 use Rattle.rules.specs.Apply.{added, overflows, apply}
 use Rattle.rules.specs.Step.{Access, decide, step, access, run}
@@ -91,6 +91,8 @@ unfolding apply
 blind-answer (Says a) r = refl
 blind-answer (Read (Counter m) rt) r = refl
 blind-answer (Read Instructions rt) r = refl
+blind-answer (Read Interval rt) r = refl
+blind-answer (Read Nvmem rt) r = refl
 blind-answer (Write p x) r = refl
 blind-answer (Add mask) r = refl
 
@@ -100,6 +102,8 @@ blind-rest (Says a) r = refl
 blind-rest (Read p rt) r = refl
 blind-rest (Write (Counter m) x) r = refl
 blind-rest (Write Instructions x) r = refl
+blind-rest (Write Interval x) r = refl
+blind-rest (Write Nvmem x) r = refl
 blind-rest (Add mask) r = refl
 
 -- a flag after the flags of f were set, from what it was

@@ -16,7 +16,7 @@ use Rattle.rules.specs.declared.Decision.{Decision}
 use Rattle.rules.specs.declared.Decision.the-variants.{Says, Read, Write, Add}
 use Rattle.rules.specs.declared.Instruction.{Instruction}
 use Rattle.rules.specs.declared.Place.{Place}
-use Rattle.rules.specs.declared.Place.the-variants.{Counter, Instructions}
+use Rattle.rules.specs.declared.Place.the-variants.{Counter, Instructions, Interval, Nvmem}
 use Rattle.rules.specs.declared.Register.{Register}
 use Rattle.rules.specs.declared.Stop.{Stop}
 use Rattle.rules.specs.Word.{decode}
@@ -29,6 +29,8 @@ use Rattle.rules.specs.Step.{unlessStopped, undefinedAtOnce, permitted, 
 abbrev pub inMask : ℕ → Place → Bool
 inMask mask (Counter i) = bit i mask
 inMask mask Instructions = false
+inMask mask Interval = false
+inMask mask Nvmem = false
 
 -- the decision reads or changes the place
 abbrev pub touches : Place → Decision → Bool

@@ -1,4 +1,5 @@
--- A record that meets a state refusal comes back unchanged with its number, from an access, an external access and a tick.
+-- A record that meets a state refusal comes back unchanged with its number, from an access, an external access, a tick and a
+-- member of the sample population.
 use Prim.Native.Nat.{ℕ}
 use mathlib.Core.Bool.{Bool}
 use mathlib.Core.Path.{_≡_}
@@ -7,7 +8,7 @@ use Rattle.machine.specs.declared.Machine.{Machine}
 use Rattle.state.specs.declared.Verdict.the-variants.{Refused}
 use Rattle.machine.specs.Outcome.{refused}
 use Rattle.state.specs.State.{viewOf, verdictOf}
-use Rattle.rules.specs.External.{externalRead, externalWrite, tick}
+use Rattle.rules.specs.External.{externalRead, externalWrite, tick, member}
 use Rattle.rules.specs.Apply.{apply}
 use Rattle.rules.specs.Step.{decide, step}
 
@@ -27,3 +28,7 @@ module _ (n : Refusal) (r : Machine) (e : verdictOf (viewOf r) ≡ Refused n) wh
   pub tick-refused : (prohibited : Bool) → tick prohibited r ≡ refused n r
   unfolding tick
   tick-refused prohibited = rw e
+
+  pub member-refused : (draw : ℕ) → member draw r ≡ refused n r
+  unfolding member
+  member-refused draw = rw e

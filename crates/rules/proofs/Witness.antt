@@ -7,11 +7,11 @@ use mathlib.Core.List.{List, [], _∷_}
 use mathlib.Core.Path.{_≡_, refl, sym, _∙_}
 use Rattle.fields.specs.Largest.{largest}
 use Rattle.fields.specs.Set.{set}
-use Rattle.store.specs.Store.{store, storeSettings, storeFeatures, storeMdcr2, storePmuacr}
+use Rattle.store.specs.Store.{store, storeSettings, storeFeatures, storeMdcr2, storeMdcr3, storePmuacr, storeSampling}
 use Rattle.machine.specs.declared.Machine.{Machine}
 use Rattle.rules.specs.Example.{setAll, countersOn, usual}
 use Rattle.rules.specs.declared.Place.{Place}
-use Rattle.rules.specs.declared.Place.the-variants.{Counter, Instructions}
+use Rattle.rules.specs.declared.Place.the-variants.{Counter, Instructions, Interval, Nvmem}
 use Rattle.rules.specs.Apply.{valueAt}
 use Rattle.rules.specs.Isolation.{Named, isPlace, Start, Isolated, fromLevels, fromHpmn, withoutP, instructionCounter}
 use Rattle.rules.specs.OverflowClaims.{AlikeButOvs}
@@ -36,20 +36,22 @@ four : Machine
 four = setAll (countersOn ((0x23, 1) ∷ (0x65, 1) ∷ (0x7F, 1) ∷ (0x37, 0x20) ∷ [])) usual
 
 start-one : Start one
-unfolding one largest set store storeSettings storeFeatures storeMdcr2 storePmuacr setAll usual viewOf tooLarge refusals verdictOf
+unfolding one largest set store storeSettings storeFeatures storeMdcr2 storeMdcr3 storePmuacr storeSampling setAll usual
+    viewOf tooLarge refusals verdictOf
 start-one = record { sized = refl; consistent = refl }
 
 start-two : Start two
-unfolding two largest set store storeSettings storeFeatures storeMdcr2 storePmuacr setAll usual viewOf tooLarge refusals verdictOf
+unfolding two largest set store storeSettings storeFeatures storeMdcr2 storeMdcr3 storePmuacr storeSampling setAll usual
+    viewOf tooLarge refusals verdictOf
 start-two = record { sized = refl; consistent = refl }
 
 start-three : Start three
-unfolding three largest set store storeSettings storeFeatures storeMdcr2 storePmuacr
+unfolding three largest set store storeSettings storeFeatures storeMdcr2 storeMdcr3 storePmuacr storeSampling
     setAll usual viewOf tooLarge refusals verdictOf
 start-three = record { sized = refl; consistent = refl }
 
 start-four : Start four
-unfolding four largest set store storeSettings storeFeatures storeMdcr2 storePmuacr
+unfolding four largest set store storeSettings storeFeatures storeMdcr2 storeMdcr3 storePmuacr storeSampling
     setAll usual viewOf tooLarge refusals verdictOf
 start-four = record { sized = refl; consistent = refl }
 
@@ -57,7 +59,7 @@ start-four = record { sized = refl; consistent = refl }
 others :
     (named : Named) → named (Counter 5) ≡ true → (p : Place) → isPlace p ≡ true → named p ≡ false
     → valueAt p one ≡ valueAt p two
-unfolding one two largest set store storeSettings storeFeatures storeMdcr2 storePmuacr setAll usual
+unfolding one two largest set store storeSettings storeFeatures storeMdcr2 storeMdcr3 storePmuacr storeSampling setAll usual
 others named five (Counter zero) h e = refl
 others named five (Counter (suc zero)) h e = refl
 others named five (Counter (suc (suc zero))) h e = refl
@@ -66,17 +68,21 @@ others named five (Counter (suc (suc (suc (suc zero))))) h e = refl
 others named five (Counter (suc (suc (suc (suc (suc zero)))))) h e = absurd (false≢true (sym e ∙ five))
 others named five (Counter (suc (suc (suc (suc (suc (suc m))))))) h e = refl
 others named five Instructions h e = refl
+others named five Interval h e = refl
+others named five Nvmem h e = refl
 
 -- places other than the instruction counter are equal in the first and the third
 all-but-instructions :
     (p : Place) → isPlace p ≡ true → instructionCounter (one .settings) p ≡ false → valueAt p one ≡ valueAt p three
-unfolding one three largest set store storeSettings storeFeatures storeMdcr2 storePmuacr setAll usual
+unfolding one three largest set store storeSettings storeFeatures storeMdcr2 storeMdcr3 storePmuacr storeSampling setAll usual
 all-but-instructions (Counter m) h e = refl
 all-but-instructions Instructions h e = absurd (false≢true (sym e))
+all-but-instructions Interval h e = refl
+all-but-instructions Nvmem h e = refl
 
 from-hpmn :
     (accesses : List Access) → fromLevels 1 accesses ≡ true → Isolated (fromHpmn (one .settings)) accesses one two
-unfolding one two largest set store storeSettings storeFeatures storeMdcr2 storePmuacr setAll usual
+unfolding one two largest set store storeSettings storeFeatures storeMdcr2 storeMdcr3 storePmuacr storeSampling setAll usual
 from-hpmn accesses l =
     noninterference .hpmn one two accesses start-one start-two refl l
     (record {
@@ -89,7 +95,7 @@ from-hpmn accesses l =
 
 without-p :
     (accesses : List Access) → fromLevels 0 accesses ≡ true → Isolated (withoutP (one .settings)) accesses one two
-unfolding one two largest set store storeSettings storeFeatures storeMdcr2 storePmuacr setAll usual
+unfolding one two largest set store storeSettings storeFeatures storeMdcr2 storeMdcr3 storePmuacr storeSampling setAll usual
 without-p accesses l =
     noninterference .pmuacr one two accesses start-one start-two refl l
     (record {
@@ -103,7 +109,7 @@ without-p accesses l =
 instructions :
     (accesses : List Access) → fromLevels 0 accesses ≡ true
     → Isolated (instructionCounter (one .settings)) accesses one three
-unfolding one three largest set store storeSettings storeFeatures storeMdcr2 storePmuacr setAll usual
+unfolding one three largest set store storeSettings storeFeatures storeMdcr2 storeMdcr3 storePmuacr storeSampling setAll usual
 instructions accesses l =
     noninterference .f0 one three accesses start-one start-three refl l
     (record {
@@ -115,5 +121,5 @@ instructions accesses l =
     })
 
 flags : (accesses : List Access) → AlikeButOvs (one .values .ovs) (four .values .ovs) (run accesses one) (run accesses four)
-unfolding one four largest set store storeSettings storeFeatures storeMdcr2 storePmuacr setAll usual
+unfolding one four largest set store storeSettings storeFeatures storeMdcr2 storeMdcr3 storePmuacr storeSampling setAll usual
 flags accesses = overflow-claims .unread one four accesses start-one start-four refl

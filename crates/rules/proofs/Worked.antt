@@ -6,7 +6,7 @@ use Rattle.bits.specs.Bits.{fromBits}
 use Rattle.fields.specs.Largest.{largest}
 use Rattle.fields.specs.Set.{set, setAll}
 use Rattle.state.specs.State.{viewOf, tooLarge, refusals, verdictOf}
-use Rattle.store.specs.Store.{store, storeSettings, storeFeatures, storeMdcr2, storePmuacr}
+use Rattle.store.specs.Store.{store, storeSettings, storeFeatures, storeMdcr2, storeMdcr3, storePmuacr, storeSampling}
 use Rattle.rules.specs.Word.{named, register, syndrome, decode, written}
 use Rattle.rules.specs.Traps.{disabledTarget, stopAtEl3, counterRules, icntrRules, rulesOf, stopOf}
 use Rattle.rules.specs.Permitted.{placeAccess, addMask}
@@ -33,7 +33,8 @@ Hold l = map actual l ≡ map expected l
 -- each of the three lists, computed
 hold : Hold worked × Hold misreadings × Hold further
 unfolding
-    largest set viewOf tooLarge refusals verdictOf store storeSettings storeFeatures storeMdcr2 storePmuacr
+    largest set viewOf tooLarge refusals verdictOf store storeSettings storeFeatures storeMdcr2 storeMdcr3 storePmuacr
+    storeSampling
     named register syndrome decode written disabledTarget stopAtEl3 counterRules icntrRules rulesOf stopOf
     placeAccess addMask decideRegister decide incremented apply step fromBits
     shownOf raised lowered reach effectOf externalRead externalWrite tick
@@ -56,7 +57,8 @@ further-hold = hold .2
 -- MODEL R4 and R10: overflow flags at and beyond their largest
 pub limits-hold : map limitsActual ovsLimits ≡ map limitsExpected ovsLimits
 unfolding
-    largest set viewOf tooLarge refusals verdictOf store storeSettings storeFeatures storeMdcr2 storePmuacr
+    largest set viewOf tooLarge refusals verdictOf store storeSettings storeFeatures storeMdcr2 storeMdcr3 storePmuacr
+    storeSampling
     named register syndrome decode written counterRules rulesOf stopOf placeAccess decideRegister decide apply step
     perform setAll usual ovsLimits withLimits limitsActual limitsExpected
 limits-hold = refl

@@ -9,12 +9,13 @@ use Rattle.bits.specs.Bits.{bit}
 use Rattle.machine.specs.declared.Machine.{Machine}
 use Rattle.machine.specs.declared.Outcome.{Outcome}
 use Rattle.machine.specs.declared.Settings.{Settings}
-use Rattle.machine.specs.Machine.{withCounters, withInstructions, withOvs}
+use Rattle.machine.specs.Machine.{withCounters, withInstructions, withOvs, withPmsicr, withNvmem}
 use Rattle.machine.specs.Outcome.{says, done}
+use Rattle.pmsicr.specs.Pmsicr.{implemented}
 use Rattle.rules.specs.declared.Decision.{Decision}
 use Rattle.rules.specs.declared.Decision.the-variants.{Says, Read, Write, Add}
 use Rattle.rules.specs.declared.Place.{Place}
-use Rattle.rules.specs.declared.Place.the-variants.{Counter, Instructions}
+use Rattle.rules.specs.declared.Place.the-variants.{Counter, Instructions, Interval, Nvmem}
 use Rattle.rules.specs.Overflow.{width, plusOne, carries, overflowWidth, raised}
 
 -- MODEL G8: f at each place of a list, from place i on
@@ -43,24 +44,38 @@ countersAfter mask r = mapFrom (incremented (r .settings .features .p5) (r .even
 abbrev pub ovsAfter : ℕ → Machine → ℕ
 ovsAfter mask r = raised (λ m. overflows (r .settings) (r .events) mask m (getD (r .counters) m 0)) (r .values .ovs)
 
--- MODEL G2: what a place holds
+-- MODEL G2 and G15: what a place holds
 abbrev pub valueAt : Place → Machine → ℕ
 valueAt (Counter m) r = getD (r .counters) m 0
 valueAt Instructions r = r .values .instructions
+valueAt Interval r = r .values .pmsicr
+valueAt Nvmem r = r .values .nvmem
 
--- MODEL G2: the record in which a place holds x
+-- MODEL G2 and G15: the record in which a place holds x
 abbrev pub withValue : Place → ℕ → Machine → Machine
 withValue (Counter m) x r = withCounters (set (r .counters) m x) r
 withValue Instructions x r = withInstructions x r
+withValue Interval x r = withPmsicr x r
+withValue Nvmem x r = withNvmem x r
 
--- MODEL G1 and G2: what a place takes of a number that is written to it, an event counter the bits of its width
+-- MODEL G1, G2 and G16: what a place takes of a number that is written to it: an event counter the bits of its width, PMSICR its
+-- implemented bits
 abbrev pub takenBy : Place → Settings → ℕ → ℕ
 takenBy (Counter m) s x = x % 2 ^ width (s .features .p5)
 takenBy Instructions s x = x
+takenBy Interval s x = implemented (s .features .ernd) x
+takenBy Nvmem s x = x
+
+-- MODEL G2 and G16: what MRS answers of what a place holds: of PMSICR its implemented bits
+abbrev pub shownBy : Place → Settings → ℕ → ℕ
+shownBy (Counter m) s y = y
+shownBy Instructions s y = y
+shownBy Interval s y = implemented (s .features .ernd) y
+shownBy Nvmem s y = y
 
 -- MODEL A3: what a decision answers, and the record afterwards
 unfoldable pub apply : Decision → Machine → Outcome
 apply (Says a) r = says a r
-apply (Read place rt) r = says (Answer.Mrs (valueAt place r) rt) r
+apply (Read place rt) r = says (Answer.Mrs (shownBy place (r .settings) (valueAt place r)) rt) r
 apply (Write place x) r = done (withValue place (takenBy place (r .settings) x) r)
 apply (Add mask) r = done (withOvs (ovsAfter mask r) (withCounters (countersAfter mask r) r))

@@ -12,14 +12,15 @@ use Rattle.state.specs.declared.View.{View}
 use Rattle.state.specs.declared.Verdict.{Verdict}
 use Rattle.state.specs.declared.Verdict.the-variants.{Consistent, Refused}
 use Rattle.machine.specs.First.{first}
-use Rattle.machine.specs.Machine.{withInstructions, withOvs}
+use Rattle.machine.specs.Machine.{withInstructions, withOvs, withPmsicr}
 use Rattle.machine.specs.Outcome.{says, done}
+use Rattle.pmsicr.specs.Pmsicr.{counted}
 use Rattle.store.specs.Store.{store}
 use Rattle.state.specs.State.{viewOf, verdictOf}
 use Rattle.rules.specs.declared.external.Request.{Request}
-use Rattle.rules.specs.declared.external.Request.the-variants.{Read, Write, Tick}
+use Rattle.rules.specs.declared.external.Request.the-variants.{Read, Write, Tick, Member}
 use Rattle.rules.specs.declared.external.Effect.{Effect}
-use Rattle.rules.specs.declared.external.Effect.the-variants.{Says, Enables, ReadOvs, ClearOvs, SetOvs, Count}
+use Rattle.rules.specs.declared.external.Effect.the-variants.{Says, Enables, ReadOvs, ClearOvs, SetOvs, Count, Sample}
 use Rattle.rules.specs.declared.external.Reach.{Reach}
 use Rattle.rules.specs.declared.external.Reach.the-variants.{Other, Ignored, Error, Pmcntenset, Pmovsclr, Pmovsset}
 use Rattle.bits.specs.Bits.{bit, fromBits}
@@ -101,11 +102,16 @@ writeOf Pmovsset x s = SetOvs (ovsShown s x)
 abbrev pub tickOf : Bool → Settings → Effect
 tickOf prohibited s = cond (s .features .icntr && bit 32 (s .cnten) && not prohibited) Count (Says Answer.Ok)
 
+-- MODEL J5: what a member of the sample population does: it counts with SPE while profiling is enabled
+abbrev pub memberOf : ℕ → Settings → Effect
+memberOf draw s = cond (s .features .spe && s .sampling .profiling) (Sample draw) (Says Answer.Ok)
+
 -- MODEL E9: the effect of a request on a consistent record; no counter and no overflow flag is looked at
 unfoldable pub effectOf : Request → Settings → Effect
 effectOf (Read offset) s = readOf (reach false offset s) s
 effectOf (Write offset x) s = writeOf (reach true offset s) x s
 effectOf (Tick prohibited) s = tickOf prohibited s
+effectOf (Member draw) s = memberOf draw s
 
 -- MODEL V3: a refused record comes before all else
 abbrev pub unlessRefusedBy : Verdict → Effect → Effect
@@ -120,7 +126,14 @@ judge v q = unlessRefusedBy (verdictOf v) (effectOf q (v .settings))
 abbrev pub ovsCounted : ℕ → ℕ → ℕ
 ovsCounted y ovs = raised (λ m. eqb m 32 && carries 64 y) ovs
 
--- MODEL E8, E10, E11, E12 and K1 to K3: what an effect answers and does to the record; the counter enables are field 34
+-- MODEL J6 to J9: a member that counts, and what it answers
+abbrev pub sample : ℕ → Machine → Outcome
+sample draw r =
+    let s = r .settings in
+    let m = counted (s .features .ernd) (s .sampling .rnd) (s .sampling .reload) draw (r .values .pmsicr) in
+    says (cond (m .selected) Answer.Sampled Answer.Ok) (withPmsicr (m .pmsicr) r)
+
+-- MODEL E8, E10, E11, E12, K1 to K3 and J6 to J9: what an effect answers and does to the record; the counter enables are field 34
 abbrev pub enact : Effect → Machine → Outcome
 enact (Says a) r = says a r
 enact (Enables e) r = done (store 0x34 e r)
@@ -130,6 +143,7 @@ enact (SetOvs mask) r = done (withOvs (raised (λ m. bit m mask) (r .values .ovs
 enact Count r =
     let v = r .values in
     done (withOvs (ovsCounted (v .instructions) (v .ovs)) (withInstructions (plusOne 64 (v .instructions)) r))
+enact (Sample draw) r = sample draw r
 
 -- MODEL E7 and E10: the external read at an offset
 unfoldable pub externalRead : ℕ → Machine → Outcome
@@ -142,3 +156,7 @@ externalWrite offset x r = enact (judge (viewOf r) (Write offset x)) r
 -- MODEL K1 to K3: the tick, while counting is prohibited or not
 unfoldable pub tick : Bool → Machine → Outcome
 tick prohibited r = enact (judge (viewOf r) (Tick prohibited)) r
+
+-- MODEL J5 to J9: a member of the sample population, with a draw
+unfoldable pub member : ℕ → Machine → Outcome
+member draw r = enact (judge (viewOf r) (Member draw)) r

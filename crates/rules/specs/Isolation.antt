@@ -1,7 +1,7 @@
 -- Two machines under one list: the claim of demand 3, about whole lists of accesses and about the very step of
 -- specs/Step.antt. Its proof is proofs/Isolation.antt; nothing here depends on it.
 use Prim.Native.Nat.{ℕ}
-use mathlib.Core.Bool.{Bool, true, false, not, _&&_}
+use mathlib.Core.Bool.{Bool, true, false, not, _&&_, _||_}
 use mathlib.Core.List.{List, [], _∷_}
 use mathlib.Core.Path.{_≡_}
 use lib.Dec.{leb, eqb}
@@ -13,7 +13,7 @@ use Rattle.machine.specs.Machine.{withLevel}
 use Rattle.state.specs.State.{viewOf, verdictOf}
 use Rattle.bits.specs.Bits.{bit}
 use Rattle.rules.specs.declared.Place.{Place}
-use Rattle.rules.specs.declared.Place.the-variants.{Counter, Instructions}
+use Rattle.rules.specs.declared.Place.the-variants.{Counter, Instructions, Interval, Nvmem}
 use Rattle.rules.specs.Apply.{valueAt}
 use Rattle.rules.specs.Step.{Access, run}
 
@@ -25,13 +25,26 @@ Named = Place → Bool
 abbrev pub isPlace : Place → Bool
 isPlace (Counter m) = leb m 30
 isPlace Instructions = true
+isPlace Interval = true
+isPlace Nvmem = true
+
+-- MODEL M4: which kind of place it is
+abbrev pub kindOf : Place → ℕ
+kindOf (Counter m) = 0
+kindOf Instructions = 1
+kindOf Interval = 2
+kindOf Nvmem = 3
+
+-- MODEL M4: which one of its kind; of event counters alone there are several
+abbrev pub indexOf : Place → ℕ
+indexOf (Counter m) = m
+indexOf Instructions = 0
+indexOf Interval = 0
+indexOf Nvmem = 0
 
 -- MODEL M4: two places are one
 abbrev pub samePlace : Place → Place → Bool
-samePlace (Counter m) (Counter i) = eqb m i
-samePlace (Counter m) Instructions = false
-samePlace Instructions (Counter i) = false
-samePlace Instructions Instructions = true
+samePlace p q = eqb (kindOf p) (kindOf q) && eqb (indexOf p) (indexOf q)
 
 -- MODEL M4: two records agree on the level and on every field but the places named
 pub record SameExcept (x : Named) (r₁ r₂ : Machine) : Type 0 where
@@ -56,7 +69,7 @@ pub record ConsistentMachine (r : Machine) : Type 0 where
   pub sized : length (r .counters) ≡ 31
   pub consistent : verdictOf (viewOf r) ≡ Consistent
 
--- MODEL M7 to M9: every access of the list is from level top or below
+-- MODEL M7 to M9 and M14: every access of the list is from level top or below
 abbrev pub fromLevels : ℕ → List Access → Bool
 fromLevels top [] = true
 fromLevels top (a ∷ rest) = leb (a .level) top && fromLevels top rest
@@ -85,6 +98,8 @@ Claim start top named when =
 abbrev pub eventCounters : (ℕ → Bool) → Named
 eventCounters f (Counter m) = f m
 eventCounters f Instructions = false
+eventCounters f Interval = false
+eventCounters f Nvmem = false
 
 -- What each claim names, all in one place.
 
@@ -98,7 +113,11 @@ withoutP s = eventCounters (λ m. not (bit m (s .pmuacr .p)))
 
 -- MODEL M9: the instruction counter
 abbrev pub instructionCounter : Settings → Named
-instructionCounter s = samePlace Instructions
+instructionCounter s p = samePlace Instructions p
+
+-- MODEL M14: PMSICR and the word at 0x838
+abbrev pub samplingCounter : Settings → Named
+samplingCounter s p = samePlace Interval p || samePlace Nvmem p
 
 -- MODEL M7: the settings with which HPMN hides its counters
 abbrev pub hpmnHides : Settings → Bool
@@ -112,9 +131,14 @@ pmuacrHides s = s .features .p9 && s .pmuserenr .uen && not (s .pmuserenr .sw)
 abbrev pub f0Hides : Settings → Bool
 f0Hides s = not (s .pmuacr .f0)
 
--- MODEL M7, M8 and M9: demand 3, whole: a noninterference claim, for accesses from EL0 and EL1, from EL0, and from EL0.
+-- MODEL M14: whatever the settings
+abbrev pub always : Settings → Bool
+always s = true
+
+-- MODEL M7, M8, M9 and M14: demand 3, whole: a noninterference claim, for accesses from EL0 and EL1, and three from EL0.
 -- `Noninterference Start` is what is demanded, and `Noninterference ConsistentMachine` says it of two consistent machines
 pub record Noninterference (start : Machine → Type 0) : Type 0 where
   pub hpmn : Claim start 1 fromHpmn hpmnHides
   pub pmuacr : Claim start 0 withoutP pmuacrHides
   pub f0 : Claim start 0 instructionCounter f0Hides
+  pub sampling : Claim start 0 samplingCounter always

@@ -1,8 +1,8 @@
 -- Permitted accesses, as far as they can be decided without a counter: what reads 0, what ignores a write, and which bits of
 -- PMSWINC count.
 use Prim.Native.Nat.{ℕ}
-use mathlib.Core.Bool.{Bool, cond, not, _&&_, _||_}
-use lib.Dec.{leb}
+use mathlib.Core.Bool.{Bool, false, cond, not, _&&_, _||_}
+use lib.Dec.{leb, eqb}
 use Rattle.answer.specs.declared.Answer.{Answer}
 use Rattle.bits.specs.Bits.{bit, fromBits}
 use Rattle.state.specs.declared.View.{View}
@@ -10,10 +10,10 @@ use Rattle.rules.specs.declared.Decision.{Decision}
 use Rattle.rules.specs.declared.Decision.the-variants.{Says, Read, Write, Add}
 use Rattle.rules.specs.declared.Instruction.{Instruction}
 use Rattle.rules.specs.declared.Place.{Place}
-use Rattle.rules.specs.declared.Place.the-variants.{Counter, Instructions}
+use Rattle.rules.specs.declared.Place.the-variants.{Counter, Instructions, Interval, Nvmem}
 use Rattle.rules.specs.Word.{written}
 use Rattle.rules.specs.Ranges.{counterEnabled}
-use Rattle.rules.specs.Traps.{atEl0, inaccessible}
+use Rattle.rules.specs.Traps.{atEl0, el2Enabled, inaccessible}
 
 -- MODEL G2 and G4 to G7: a permitted access of a place. Where it is denied, it reads 0 and ignores writes; where it is
 -- read-only, it ignores writes
@@ -50,6 +50,18 @@ readOnlyIr v = atEl0 v && v .settings .pmuserenr .ir
 -- MODEL G2 and G6: a permitted access of PMICNTR
 abbrev pub pmicntrAccess : View → Instruction → ℕ → Decision
 pmicntrAccess v i x = placeAccess (deniedF0 v) (readOnlyIr v) Instructions i x
+
+-- MODEL G15: at EL1, with EL2 enabled and NV and NV2 both 1, an access of PMSICR goes to the word at 0x838
+abbrev pub redirected : View → Bool
+redirected v = el2Enabled v && eqb (v .level) 1 && v .settings .hcr .nv && v .settings .hcr .nv2
+
+-- MODEL G15: where an access of PMSICR goes
+abbrev pub pmsicrPlace : View → Place
+pmsicrPlace v = cond (redirected v) Nvmem Interval
+
+-- MODEL G2 and G15: a permitted access of PMSICR; none is denied or read-only
+abbrev pub pmsicrAccess : View → Instruction → ℕ → Decision
+pmsicrAccess v i x = placeAccess false false (pmsicrPlace v) i x
 
 -- MODEL G9: PMUACR holds increments back, only while SW is 0
 abbrev pub holdsBack : View → Bool

@@ -16,25 +16,27 @@ use Rattle.rules.specs.declared.Decision.{Decision}
 use Rattle.rules.specs.declared.Decision.the-variants.{Says}
 use Rattle.rules.specs.declared.Instruction.{Instruction}
 use Rattle.rules.specs.declared.Register.{Register}
-use Rattle.rules.specs.declared.Register.the-variants.{Pmevcntr, Pmswinc, Pmicntr, Other}
+use Rattle.rules.specs.declared.Register.the-variants.{Pmevcntr, Pmswinc, Pmicntr, Pmsicr, Other}
 use Rattle.rules.specs.declared.Stop.{Stop}
 use Rattle.rules.specs.Word.{decode}
-use Rattle.rules.specs.Traps.{stopOf}
-use Rattle.rules.specs.Permitted.{pmevcntrAccess, pmswincAccess, pmicntrAccess}
+use Rattle.rules.specs.Traps.{atEl0, stopOf}
+use Rattle.rules.specs.Permitted.{pmevcntrAccess, pmswincAccess, pmicntrAccess, pmsicrAccess}
 use Rattle.rules.specs.Apply.{apply}
 
--- MODEL U1 to U5: undefined before any trap is looked at. U2 holds without FGT too, where Arm's page 001 leaves a choice
+-- MODEL U1 to U7: undefined before any trap is looked at. U2 holds without FGT too, where Arm's page 001 leaves a choice
 abbrev pub undefinedAtOnce : View → Register → Bool → Bool
 undefinedAtOnce v (Pmevcntr m) read = not (v .settings .features .pmuv3) || leb (v .settings .features .n) m
 undefinedAtOnce v Pmswinc read = not (v .settings .features .pmuv3) || read
 undefinedAtOnce v Pmicntr read = not (v .settings .features .icntr)
+undefinedAtOnce v Pmsicr read = not (v .settings .features .spe) || atEl0 v
 undefinedAtOnce v Other read = false
 
--- MODEL G2, G8 and W7: a permitted access; a word of no register of the model's answers `other`
+-- MODEL G2, G8, G15 and W7: a permitted access; a word of no register of the model's answers `other`
 abbrev pub permitted : View → Register → Instruction → ℕ → Decision
 permitted v (Pmevcntr m) i x = pmevcntrAccess v m i x
 permitted v Pmswinc i x = pmswincAccess v i x
 permitted v Pmicntr i x = pmicntrAccess v i x
+permitted v Pmsicr i x = pmsicrAccess v i x
 permitted v Other i x = Says Answer.Other
 
 -- MODEL T11: an access that the order of traps passes is permitted, and a trap answers its target, its cause and the syndrome

@@ -5,16 +5,17 @@ use mathlib.Core.Bool.{Bool, false, cond, not, _&&_, _||_}
 use mathlib.Core.List.{List, [], _∷_}
 use lib.Dec.{leb, eqb}
 use Rattle.answer.specs.declared.Cause.{Cause}
-use Rattle.answer.specs.declared.Cause.the-variants.{Pmuserenr, FineGrained, Mdcr2Tpm, Hpmn, Mdcr3Tpm, EnPm2, FgtEn2}
+use Rattle.answer.specs.declared.Cause.the-variants.{Pmuserenr, FineGrained, Mdcr2Tpm, Hpmn, Mdcr3Tpm, EnPm2, FgtEn2, Tpms, Nspb}
 use Rattle.answer.specs.declared.Level.{Level}
 use Rattle.answer.specs.declared.Level.the-variants.{El1, El2, El3}
+use Rattle.bits.specs.Bits.{bit}
 use Rattle.machine.specs.First.{first}
 use Rattle.state.specs.declared.View.{View}
 use Rattle.rules.specs.declared.Register.{Register}
-use Rattle.rules.specs.declared.Register.the-variants.{Pmevcntr, Pmswinc, Pmicntr, Other}
+use Rattle.rules.specs.declared.Register.the-variants.{Pmevcntr, Pmswinc, Pmicntr, Pmsicr, Other}
 use Rattle.rules.specs.declared.Stop.{Stop}
 
--- MODEL T1 to T6 and I1 to I6: the level is one of 0 to l
+-- MODEL T1 to T6, I1 to I6 and N1 to N4: the level is one of 0 to l
 abbrev pub upTo : ℕ → View → Bool
 upTo l v = leb (v .level) l
 
@@ -22,12 +23,12 @@ upTo l v = leb (v .level) l
 abbrev pub atEl0 : View → Bool
 atEl0 v = eqb (v .level) 0
 
--- MODEL F3: EL2 is enabled, which T2 to T5, I2 to I4, G9, R11, R12 and R16 look at. R12 to R14, G12 and G14 look at whether it is
--- implemented
+-- MODEL F3: EL2 is enabled, which T2 to T5, I2 to I4, N2, N3, G9, G15, R11, R12 and R16 look at. R12 to R14, G12 and G14 look at
+-- whether it is implemented
 abbrev pub el2Enabled : View → Bool
 el2Enabled v = v .settings .execution .el2enabled
 
--- MODEL F2: EL3 is implemented, which T1, T3, T6, I1, I2, I5 and I6 look at
+-- MODEL F2: EL3 is implemented, which T1, T3, T6, I1, I2, I5, I6, N1, N2 and N4 look at
 abbrev pub haveEl3 : View → Bool
 haveEl3 v = v .settings .features .el3
 
@@ -141,6 +142,43 @@ icntrRules v nPMICNTR =
 unfoldable pub icntrOrder : View → Bool → Stop
 icntrOrder v nPMICNTR = first (icntrRules v nPMICNTR) Stop.Pass
 
+-- MODEL N5: one of two bits is 1 and the other 0
+abbrev pub differ : Bool → Bool → Bool
+differ a b = (a && not b) || (not a && b)
+
+-- MODEL N5: NSPB keeps the access from PMSICR: its bit 0 is 0, or its bit 1 differs from NS
+abbrev pub nspbBars : View → Bool
+nspbBars v =
+    let nspb = v .settings .mdcr3 .nspb in
+    not (bit 0 nspb) || differ (bit 1 nspb) (v .settings .scr .ns)
+
+-- MODEL N1: undefined by the priority of EL3's trap in Debug state
+abbrev pub pmsicrRule1 : View → Bool
+pmsicrRule1 v = haveEl3 v && upTo 2 v && haltedSdd v && v .settings .features .el3prio && nspbBars v
+
+-- MODEL N2: the fine-grained bit of this direction. E2H and TGE exempt no level (MODEL N7)
+abbrev pub pmsicrRule2 : View → Bool → Bool
+pmsicrRule2 v trapBit =
+    el2Enabled v && upTo 1 v && v .settings .features .fgt && (not (haveEl3 v) || v .settings .scr .fgten) && trapBit
+
+-- MODEL N3: TPMS
+abbrev pub pmsicrRule3 : View → Bool
+pmsicrRule3 v = el2Enabled v && upTo 1 v && v .settings .mdcr2 .tpms
+
+-- MODEL N4: NSPB
+abbrev pub pmsicrRule4 : View → Bool
+pmsicrRule4 v = haveEl3 v && upTo 2 v && nspbBars v
+
+-- MODEL N1 to N4 and D0: each rule's test and its stop, with the cause, in order, from the fine-grained bit of the direction. At
+-- level 0 the access is undefined before (MODEL U7)
+unfoldable pub pmsicrRules : View → Bool → List (Bool × Stop)
+pmsicrRules v trapBit =
+    (pmsicrRule1 v, Stop.Undef)
+    ∷ (pmsicrRule2 v trapBit, Stop.Trap El2 FineGrained)
+    ∷ (pmsicrRule3 v, Stop.Trap El2 Tpms)
+    ∷ (pmsicrRule4 v, stopAtEl3 v Nspb)
+    ∷ []
+
 -- MODEL T7: PMUSERENR does not enable MRS, or MSR, of an event counter
 abbrev pub pmevcntrDisabled : View → Bool → Bool
 pmevcntrDisabled v read =
@@ -158,14 +196,19 @@ pmevcntrBit v read = cond read (v .settings .hdfgrtr .pmevcntrn) (v .settings .h
 abbrev pub pmicntrBit : View → Bool → Bool
 pmicntrBit v read = cond read (v .settings .hdfgrtr .npmicntr) (v .settings .hdfgwtr .npmicntr)
 
--- MODEL T1 to T8 and I1 to I7: the order of a register and a direction. T5 is not for PMSWINC, and a word of no register of the
--- model's has no rules
+-- MODEL N6: that of PMSICR
+abbrev pub pmsicrBit : View → Bool → Bool
+pmsicrBit v read = cond read (v .settings .hdfgrtr .pmsicr) (v .settings .hdfgwtr .pmsicr)
+
+-- MODEL T1 to T8, I1 to I7 and N1 to N6: the order of a register and a direction. T5 is not for PMSWINC, and a word of no
+-- register of the model's has no rules
 unfoldable pub rulesOf : View → Register → Bool → List (Bool × Stop)
 rulesOf v (Pmevcntr m) read = counterRules v (pmevcntrDisabled v read) (pmevcntrBit v read) (inaccessible v m)
 rulesOf v Pmswinc read = counterRules v (pmswincDisabled v) (v .settings .hdfgwtr .pmswinc) false
 rulesOf v Pmicntr read = icntrRules v (pmicntrBit v read)
+rulesOf v Pmsicr read = pmsicrRules v (pmsicrBit v read)
 rulesOf v Other read = []
 
--- MODEL T1 to T6 and I1 to I6: the first that applies; where none does, the access passes
+-- MODEL T1 to T6, I1 to I6 and N1 to N4: the first that applies; where none does, the access passes
 unfoldable pub stopOf : View → Register → Bool → Stop
 stopOf v r read = first (rulesOf v r read) Stop.Pass

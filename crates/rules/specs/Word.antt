@@ -5,7 +5,7 @@ use lib.Dec.{leb, eqb}
 use Rattle.bits.specs.Bits.{bits}
 use Rattle.rules.specs.declared.Instruction.{Instruction}
 use Rattle.rules.specs.declared.Register.{Register}
-use Rattle.rules.specs.declared.Register.the-variants.{Pmevcntr, Pmswinc, Pmicntr, Other}
+use Rattle.rules.specs.declared.Register.the-variants.{Pmevcntr, Pmswinc, Pmicntr, Pmsicr, Other}
 
 -- MODEL W1: the word moves a system register
 abbrev pub isMrsMsr : ℕ → Bool
@@ -43,16 +43,30 @@ op2 w = bits 7 5 w
 abbrev pub rt : ℕ → ℕ
 rt w = w % 2 ^ 5
 
--- MODEL W4, W5, W6 and W7: the register that CRn, CRm and op2 name
+-- MODEL W4 to W7 and W12: the register that CRn, CRm and op2 name
 unfoldable pub named : ℕ → ℕ → ℕ → Register
 named n m o =
     cond (eqb n 14 && (leb 8 m && leb m 11)) (Pmevcntr (8 * (m % 4) + o))
     (cond (eqb n 9 && (eqb m 12 && eqb o 4)) Pmswinc
-    (cond (eqb n 9 && (eqb m 4 && eqb o 0)) Pmicntr Other))
+    (cond (eqb n 9 && (eqb m 4 && eqb o 0)) Pmicntr
+    (cond (eqb n 9 && (eqb m 9 && eqb o 2)) Pmsicr Other)))
 
--- MODEL W4 to W7: the register of a word; every word that is none of the three registers' is `other`
+-- MODEL W4 to W7 and W12: the op1 of a register's words; for no register any will do
+abbrev pub op1Of : Register → ℕ
+op1Of (Pmevcntr m) = 3
+op1Of Pmswinc = 3
+op1Of Pmicntr = 3
+op1Of Pmsicr = 0
+op1Of Other = 0
+
+-- MODEL W4 to W7 and W12: a register that is named, in words with op1 o
+abbrev pub unlessOp1Differs : ℕ → Register → Register
+unlessOp1Differs o r = cond (eqb o (op1Of r)) r Other
+
+-- MODEL W4 to W7 and W12: the register of a word; every word that is none of the model's registers' is `other`
 unfoldable pub register : ℕ → Register
-register w = cond (isMrsMsr w && eqb (op0 w) 3 && eqb (op1 w) 3) (named (crn w) (crm w) (op2 w)) Other
+register w =
+    cond (isMrsMsr w && eqb (op0 w) 3) (unlessOp1Differs (op1 w) (named (crn w) (crm w) (op2 w))) Other
 
 -- MODEL W9: the syndrome, each part of the word at its place in it
 unfoldable pub syndrome : ℕ → ℕ
@@ -67,7 +81,7 @@ syndrome w =
     + crm w * 2
     + direction w
 
--- MODEL W1 to W7 and W9: a word taken apart, once for all that follows: register, direction, Rt and syndrome
+-- MODEL W1 to W7, W9 and W12: a word taken apart, once for all that follows: register, direction, Rt and syndrome
 unfoldable pub decode : ℕ → Instruction
 decode w = record { register = register w; read = isRead w; rt = rt w; syndrome = syndrome w }
 

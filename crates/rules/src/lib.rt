@@ -6,11 +6,12 @@ use answer::Answer;
 use answer::Cause;
 use answer::Level;
 
-// The register that an instruction word names: PMEVCNTR<m>_EL0, PMSWINC_EL0, PMICNTR_EL0 or another.
+// The register that an instruction word names: PMEVCNTR<m>_EL0, PMSWINC_EL0, PMICNTR_EL0, PMSICR_EL1 or another.
 pub enum Register {
     Pmevcntr(u64),
     Pmswinc,
     Pmicntr,
+    Pmsicr,
     Other,
 }
 
@@ -30,10 +31,13 @@ pub enum Stop {
     Trap(Level, Cause),
 }
 
-// What an access can read or write in the record: an event counter by its number, or the instruction counter.
+// What an access can read or write in the record: an event counter by its number, the instruction counter, the sampling interval
+// counter PMSICR_EL1, or the word at 0x838, NVMem[0x838].
 pub enum Place {
     Counter(u64),
     Instructions,
+    Interval,
+    Nvmem,
 }
 
 // All that an access is to do: answer and change nothing; read one place into Rt; write one place; or add 1 to event counters

@@ -18,6 +18,8 @@ numbersLarge v =
     || exceeds (v .settings .mdcr2 .hpmn) 0x27
     || exceeds (v .settings .pmuacr .p) 0x32
     || exceeds (v .settings .cnten) 0x34
+    || exceeds (v .settings .mdcr3 .nspb) 0x88
+    || exceeds (v .settings .sampling .reload) 0x8B
 
 isConsistent : Verdict → Bool
 isConsistent Consistent = true

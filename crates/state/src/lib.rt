@@ -34,6 +34,8 @@ pub fn verdict_of(v: View) -> Verdict
         | (31 < hpmn)
         | (0x7FFFFFFF < s.pmuacr.p)
         | (0x1FFFFFFFF < s.cnten)
+        | (3 < s.mdcr3.nspb)
+        | (0xFFFFFFFF < s.sampling.reload)
         | v.ovslarge
         | (largest::LEVEL < level);
     let level_unavailable = ((level == 3) & !has.el3) | ((level == 2) & !el2enabled);

@@ -3,7 +3,7 @@
 ghost use mathlib.Core.Path.{_≡_};
 ghost use Rattle.store.specs.Store.{storeFeatures, storeExecution, storePmcr, storePmuserenr, storeHcr, storeMdcr2};
 ghost use Rattle.store.specs.Store.{storeMdcr3, storeScr, storeHdfgrtr, storeHdfgwtr, storePmuacr, storeExternal};
-ghost use Rattle.store.specs.Store.{storeSettings, storeList, storeValues};
+ghost use Rattle.store.specs.Store.{storeSampling, storeSettings, storeList, storeValues};
 ghost use Prim.Native.Nat.{_%_};
 use machine::Execution;
 use machine::External;
@@ -16,6 +16,7 @@ use machine::Mdcr3;
 use machine::Pmcr;
 use machine::Pmuacr;
 use machine::Pmuserenr;
+use machine::Sampling;
 use machine::Scr;
 use machine::Settings;
 use machine::Values;
@@ -38,6 +39,8 @@ fn features(s: Features, f: u8, v: u64) -> Features
         el2: ((f == 0x09) & on) | ((f != 0x09) & s.el2),
         el3: ((f == 0x0A) & on) | ((f != 0x0A) & s.el3),
         el3prio: ((f == 0x0B) & on) | ((f != 0x0B) & s.el3prio),
+        spe: ((f == 0x80) & on) | ((f != 0x80) & s.spe),
+        ernd: ((f == 0x81) & on) | ((f != 0x81) & s.ernd),
         n: n,
     }
 }
@@ -83,6 +86,8 @@ fn hcr(s: Hcr, f: u8, v: u64) -> Hcr
     Hcr {
         e2h: ((f == 0x24) & on) | ((f != 0x24) & s.e2h),
         tge: ((f == 0x25) & on) | ((f != 0x25) & s.tge),
+        nv: ((f == 0x84) & on) | ((f != 0x84) & s.nv),
+        nv2: ((f == 0x85) & on) | ((f != 0x85) & s.nv2),
     }
 }
 
@@ -95,6 +100,7 @@ fn mdcr2(s: Mdcr2, f: u8, v: u64) -> Mdcr2
         tpm: ((f == 0x26) & on) | ((f != 0x26) & s.tpm),
         hpme: ((f == 0x3E) & on) | ((f != 0x3E) & s.hpme),
         hlp: ((f == 0x36) & on) | ((f != 0x36) & s.hlp),
+        tpms: ((f == 0x86) & on) | ((f != 0x86) & s.tpms),
         hpmn: hpmn,
     }
 }
@@ -103,9 +109,11 @@ fn mdcr3(s: Mdcr3, f: u8, v: u64) -> Mdcr3
     ensures { λ r. ⌜ r ≡ storeMdcr3 f v s ⌝ }
 {
     let on = v == 1;
+    let nspb = bits::pick(f == 0x88, v, s.nspb);
     Mdcr3 {
         tpm: ((f == 0x28) & on) | ((f != 0x28) & s.tpm),
         enpm2: ((f == 0x29) & on) | ((f != 0x29) & s.enpm2),
+        nspb: nspb,
     }
 }
 
@@ -116,6 +124,7 @@ fn scr(s: Scr, f: u8, v: u64) -> Scr
     Scr {
         fgten: ((f == 0x2A) & on) | ((f != 0x2A) & s.fgten),
         fgten2: ((f == 0x2B) & on) | ((f != 0x2B) & s.fgten2),
+        ns: ((f == 0x87) & on) | ((f != 0x87) & s.ns),
     }
 }
 
@@ -125,6 +134,7 @@ fn hdfgrtr(s: Hdfgrtr, f: u8, v: u64) -> Hdfgrtr
     let on = v == 1;
     Hdfgrtr {
         pmevcntrn: ((f == 0x2C) & on) | ((f != 0x2C) & s.pmevcntrn),
+        pmsicr: ((f == 0x89) & on) | ((f != 0x89) & s.pmsicr),
         npmicntr: ((f == 0x2F) & on) | ((f != 0x2F) & s.npmicntr),
     }
 }
@@ -136,6 +146,7 @@ fn hdfgwtr(s: Hdfgwtr, f: u8, v: u64) -> Hdfgwtr
     Hdfgwtr {
         pmevcntrn: ((f == 0x2D) & on) | ((f != 0x2D) & s.pmevcntrn),
         pmswinc: ((f == 0x2E) & on) | ((f != 0x2E) & s.pmswinc),
+        pmsicr: ((f == 0x8A) & on) | ((f != 0x8A) & s.pmsicr),
         npmicntr: ((f == 0x30) & on) | ((f != 0x30) & s.npmicntr),
     }
 }
@@ -148,6 +159,18 @@ fn pmuacr(s: Pmuacr, f: u8, v: u64) -> Pmuacr
     Pmuacr {
         p: p,
         f0: ((f == 0x33) & on) | ((f != 0x33) & s.f0),
+    }
+}
+
+fn sampling(s: Sampling, f: u8, v: u64) -> Sampling
+    ensures { λ r. ⌜ r ≡ storeSampling f v s ⌝ }
+{
+    let on = v == 1;
+    let reload = bits::pick(f == 0x8B, v, s.reload);
+    Sampling {
+        rnd: ((f == 0x82) & on) | ((f != 0x82) & s.rnd),
+        profiling: ((f == 0x83) & on) | ((f != 0x83) & s.profiling),
+        reload: reload,
     }
 }
 
@@ -178,6 +201,7 @@ pub fn settings(s: Settings, f: u8, v: u64) -> Settings
     let hdfgrtr0 = s.hdfgrtr;
     let hdfgwtr0 = s.hdfgwtr;
     let pmuacr0 = s.pmuacr;
+    let sampling0 = s.sampling;
     let external0 = s.external;
     Settings {
         features: features(features0, f, v),
@@ -191,6 +215,7 @@ pub fn settings(s: Settings, f: u8, v: u64) -> Settings
         hdfgrtr: hdfgrtr(hdfgrtr0, f, v),
         hdfgwtr: hdfgwtr(hdfgwtr0, f, v),
         pmuacr: pmuacr(pmuacr0, f, v),
+        sampling: sampling(sampling0, f, v),
         cnten: bits::pick(f == 0x34, v, s.cnten),
         external: external(external0, f, v),
     }
@@ -232,5 +257,7 @@ pub fn values(s: Values, f: u8, v: u64) -> Values
     Values {
         instructions: bits::pick(f == 0x7F, v, s.instructions),
         ovs: bits::pick(f == 0x37, v, s.ovs),
+        pmsicr: bits::pick(f == 0x8C, v, s.pmsicr),
+        nvmem: bits::pick(f == 0x8D, v, s.nvmem),
     }
 }

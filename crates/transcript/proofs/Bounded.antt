@@ -10,11 +10,13 @@ use Rattle.bits.specs.Bits.{bit}
 use Rattle.command.proofs.Choice.{either}
 use Rattle.fields.specs.Largest.{largest, exceeds, largestLevel}
 use Rattle.fields.specs.Set.{set, setLevel}
-use Rattle.store.specs.Store.{number, store, storeSettings, storeFeatures, storeMdcr2, storePmuacr}
+use Rattle.store.specs.Store.{number, store, storeSettings, storeFeatures, storeMdcr2, storeMdcr3, storePmuacr, storeSampling}
+use Rattle.machine.proofs.Bools.{chosen, or-fails}
 use Rattle.machine.specs.declared.Machine.{Machine}
 use Rattle.machine.specs.declared.Outcome.{Outcome}
-use Rattle.machine.specs.Machine.{withLevel, withOvs}
+use Rattle.machine.specs.Machine.{withLevel, withOvs, withPmsicr}
 use Rattle.machine.specs.Outcome.{says}
+use Rattle.pmsicr.specs.Pmsicr.{counted}
 use Rattle.rules.proofs.Applied.{settings-stay, level-stays, ovs-stay-within}
 use Rattle.rules.proofs.Flags.{raised-lt, raised-fits, lowered-fits}
 use Rattle.rules.proofs.Shown.{shown-bit-31}
@@ -24,7 +26,7 @@ use Rattle.rules.specs.declared.external.Reach.{Reach}
 use Rattle.rules.specs.declared.external.Reach.the-variants.{Other, Ignored, Error, Pmcntenset, Pmovsclr, Pmovsset}
 use Rattle.rules.specs.Overflow.{carries}
 use Rattle.rules.specs.External.{enablesShown, enablesWritten, ovsCounted, unlessRefusedBy, readOf, writeOf, effectOf, enact}
-use Rattle.rules.specs.External.{externalRead, externalWrite, tick}
+use Rattle.rules.specs.External.{sample, externalRead, externalWrite, tick, member}
 use Rattle.rules.specs.Apply.{apply}
 use Rattle.rules.specs.Step.{decide, step}
 use Rattle.state.specs.declared.Verdict.{Verdict}
@@ -41,11 +43,6 @@ pub record Bounded (o : Outcome) : Type 0 where
 pub says-bounded : (a : Answer) (r : Machine) → isRefusal10 a ≡ false → tooLarge (viewOf r) ≡ false → Bounded (says a r)
 says-bounded a r p q = record { answer = p; machine = q }
 
--- two tests that fail, where two others failed
-or-fails : (a a′ b b′ : Bool) → (a ≡ false → a′ ≡ false) → (b ≡ false → b′ ≡ false) → a || b ≡ false → a′ || b′ ≡ false
-or-fails false a′ b b′ p q e = rw (p refl) (q e)
-or-fails true a′ b b′ p q e = cc
-
 -- a number after a store: the value, at most the largest of its field, or what was there
 number-bounded :
     (k f v old : ℕ) → exceeds v f ≡ false → exceeds old k ≡ false → exceeds (number k f v old) k ≡ false
@@ -58,11 +55,21 @@ number-bounded k f v old h o = go (eqb f k) refl
 module _ (r : Machine) (b : tooLarge (viewOf r) ≡ false) where
   numbers-bounded :
       (f v : ℕ) → exceeds v f ≡ false → numbersLarge (viewOf r) ≡ false → numbersLarge (viewOf (store f v r)) ≡ false
-  unfolding viewOf largest store storeSettings storeFeatures storeMdcr2 storePmuacr
-  numbers-bounded f v h e = search (or-fails, number-bounded)
+  unfolding viewOf largest store storeSettings storeFeatures storeMdcr2 storeMdcr3 storePmuacr storeSampling
+  numbers-bounded f v h e =
+      or-fails _ _ _ _
+      (or-fails _ _ _ _
+      (or-fails _ _ _ _
+      (or-fails _ _ _ _
+      (or-fails _ _ _ _ (number-bounded 0x0C f v _ h) (number-bounded 0x27 f v _ h))
+      (number-bounded 0x32 f v _ h))
+      (number-bounded 0x34 f v _ h))
+      (number-bounded 0x88 f v _ h))
+      (number-bounded 0x8B f v _ h)
+      e
 
   store-bounded : (f v : ℕ) → exceeds v f ≡ false → tooLarge (viewOf (store f v r)) ≡ false
-  unfolding tooLarge viewOf largest store storeSettings storeFeatures storeMdcr2 storePmuacr
+  unfolding tooLarge viewOf largest store storeSettings storeFeatures storeMdcr2 storeMdcr3 storePmuacr storeSampling
   store-bounded f v h =
       let level = ltb largestLevel (r .level) in
       let numbers = numbersLarge (viewOf r) in
@@ -91,9 +98,14 @@ module _ (r : Machine) (b : tooLarge (viewOf r) ≡ false) where
   unfolding tooLarge viewOf
   with-ovs o h = search or-fails
 
+  -- a stored field, and PMSICR, whatever it then holds
+  stored-bounded : (f v x : ℕ) → exceeds v f ≡ false → tooLarge (viewOf (withPmsicr x (store f v r))) ≡ false
+  unfolding tooLarge viewOf store
+  stored-bounded f v x h = store-bounded f v h
+
   pub set-bounded : (f v : ℕ) → Bounded (set f v r)
   unfolding set
-  set-bounded f v = search (either Bounded, says-bounded, store-bounded)
+  set-bounded f v = search (either Bounded, says-bounded, stored-bounded)
 
   pub level-bounded : (l : ℕ) → Bounded (setLevel l r)
   unfolding setLevel
@@ -152,3 +164,15 @@ module _ (r : Machine) (b : tooLarge (viewOf r) ≡ false) where
   unfolding tick effectOf tooLarge viewOf
   tick-bounded prohibited =
       search (refused-bounded, verdict-passes, either (λ e. Bounded (enact e r)), says-bounded, count-bounded)
+
+  sample-bounded : (draw : ℕ) → Bounded (sample draw r)
+  unfolding tooLarge viewOf
+  sample-bounded draw =
+      let s = r .settings in
+      let m = counted (s .features .ernd) (s .sampling .rnd) (s .sampling .reload) draw (r .values .pmsicr) in
+      says-bounded _ _ (chosen (λ a. isRefusal10 a ≡ false) (m .selected) Answer.Sampled Answer.Ok refl refl) b
+
+  pub member-bounded : (draw : ℕ) → Bounded (member draw r)
+  unfolding member effectOf viewOf
+  member-bounded draw =
+      search (refused-bounded, verdict-passes, either (λ e. Bounded (enact e r)), says-bounded, sample-bounded)

@@ -65,6 +65,7 @@ none-hex (suc k) x = go (ltb (x / 2 ^ (4 * k) % 16) 10) (none-hex k x)
 none-text : (a : Answer) → lineEnds (textOf a) ≡ 0
 unfolding textOf
 none-text Answer.Ok = refl
+none-text Answer.Sampled = refl
 none-text Answer.End = refl
 none-text Answer.Undef = refl
 none-text Answer.Other = refl

@@ -24,7 +24,7 @@ use Rattle.transcript.specs.Session.{execute}
 
 -- every variant but 3, the access
 abbrev others : List ℕ
-others = 0 ∷ 1 ∷ 2 ∷ 4 ∷ 5 ∷ 6 ∷ 7 ∷ []
+others = 0 ∷ 1 ∷ 2 ∷ 4 ∷ 5 ∷ 6 ∷ 7 ∷ 8 ∷ []
 
 pub no-access : (c : Command) → OneOf others (tagOf C′.the-type c) → isAccess c ≡ false
 no-access Command.End t = refl
@@ -34,6 +34,7 @@ no-access (Command.Access w x) t = absurd (miss others 3 tt t)
 no-access (Command.Read o) t = refl
 no-access (Command.Write o x) t = refl
 no-access (Command.Tick p) t = refl
+no-access (Command.Member d) t = refl
 no-access (Command.Bad r) t = refl
 
 -- variant 0 or 3, and no access: the end command
@@ -48,7 +49,8 @@ only-end (Command.Access w x) r t n = cc
 only-end (Command.Read o) r t n = absurd (miss (0 ∷ 3 ∷ []) 4 tt t)
 only-end (Command.Write o x) r t n = absurd (miss (0 ∷ 3 ∷ []) 5 tt t)
 only-end (Command.Tick p) r t n = absurd (miss (0 ∷ 3 ∷ []) 6 tt t)
-only-end (Command.Bad e) r t n = absurd (miss (0 ∷ 3 ∷ []) 7 tt t)
+only-end (Command.Member d) r t n = absurd (miss (0 ∷ 3 ∷ []) 7 tt t)
+only-end (Command.Bad e) r t n = absurd (miss (0 ∷ 3 ∷ []) 8 tt t)
 
 -- the answer and the record after the command c on the record m: of an access, by what was said and the counters that were lent
 module _ (c : Command) (m : Machine) (a : Answer) (next : Machine) where

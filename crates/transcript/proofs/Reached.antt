@@ -25,6 +25,7 @@ use Rattle.transcript.proofs.Bounded.{
   read-bounded,
   write-bounded,
   tick-bounded,
+  member-bounded,
 }
 
 -- P holds of every answer
@@ -54,7 +55,8 @@ front-bounded (c ∷ s) r b =
       read-bounded,
       write-bounded,
       tick-bounded,
-    ) depth 12
+      member-bounded,
+    ) depth 13
 
 -- the answers from a record on that does not meet refusal 10
 answers-bounded : (k : ℕ) (s : List ℕ) (r : Machine) → tooLarge (viewOf r) ≡ false → all NotRefusal10 (answersFrom k s r)

@@ -11,7 +11,7 @@ use Rattle.machine.specs.declared.Machine.{Machine}
 use Rattle.rules.specs.declared.Decision.{Decision}
 use Rattle.rules.specs.declared.Instruction.{Instruction}
 use Rattle.rules.specs.declared.Register.{Register}
-use Rattle.rules.specs.declared.Register.the-variants.{Pmevcntr, Pmswinc, Pmicntr, Other}
+use Rattle.rules.specs.declared.Register.the-variants.{Pmevcntr, Pmswinc, Pmicntr, Pmsicr, Other}
 use Rattle.rules.specs.declared.Stop.{Stop}
 use Rattle.rules.specs.Permitted.{placeAccess}
 use Rattle.rules.specs.Apply.{apply}
@@ -25,6 +25,7 @@ use Rattle.state.specs.State.{viewOf, tooLarge, refusals, verdictOf}
 -- the answer is refusal 10
 abbrev pub isRefusal10 : Answer → Bool
 isRefusal10 Answer.Ok = false
+isRefusal10 Answer.Sampled = false
 isRefusal10 Answer.End = false
 isRefusal10 Answer.Undef = false
 isRefusal10 Answer.Other = false
@@ -59,6 +60,7 @@ module _ (r : Machine) where
   register-spares v (Pmevcntr m) i x = search (either (Spares r), stopped-spares)
   register-spares v Pmswinc i x = search (either (Spares r), stopped-spares)
   register-spares v Pmicntr i x = search (either (Spares r), stopped-spares)
+  register-spares v Pmsicr i x = search (either (Spares r), stopped-spares)
   register-spares v Other i x = search (either (Spares r), stopped-spares)
 
   refused-spares : (v : Verdict) (d : Decision) → Passes v → Spares r d → Spares r (unlessRefused v d)

@@ -4,7 +4,7 @@ use mathlib.Core.Path.{_≡_, refl}
 use Rattle.fields.specs.Largest.{largest}
 use Rattle.fields.specs.Set.{set, setLevel}
 use Rattle.state.specs.State.{viewOf, tooLarge, refusals, verdictOf}
-use Rattle.store.specs.Store.{store, storeSettings, storeFeatures, storeMdcr2, storePmuacr}
+use Rattle.store.specs.Store.{store, storeSettings, storeFeatures, storeMdcr2, storeMdcr3, storePmuacr, storeSampling}
 use Rattle.rules.specs.Word.{named, register, syndrome, decode, written}
 use Rattle.rules.specs.Traps.{disabledTarget, stopAtEl3, counterRules, rulesOf, stopOf}
 use Rattle.rules.specs.Permitted.{placeAccess}
@@ -18,7 +18,8 @@ use Rattle.transcript.specs.Example.{Example, examples}
 
 pub examples-hold : map (λ (e : Example). outputOf (e .input)) examples ≡ map (λ (e : Example). bytes (e .output)) examples
 unfolding
-    largest set setLevel viewOf tooLarge refusals verdictOf store storeSettings storeFeatures storeMdcr2 storePmuacr
+    largest set setLevel viewOf tooLarge refusals verdictOf store storeSettings storeFeatures storeMdcr2 storeMdcr3
+    storePmuacr storeSampling
     named register syndrome decode written disabledTarget stopAtEl3 counterRules rulesOf stopOf placeAccess
     decideRegister decide apply step decimal hex commandOf textOf lineOf
     execute answersFrom linesFrom answersOf outputOf examples

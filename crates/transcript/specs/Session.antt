@@ -12,7 +12,7 @@ use Rattle.machine.specs.Machine.{fresh}
 use Rattle.fields.specs.Set.{set, setLevel}
 use Rattle.machine.specs.Outcome.{says, refused}
 use Rattle.rules.specs.Step.{step}
-use Rattle.rules.specs.External.{externalRead, externalWrite, tick}
+use Rattle.rules.specs.External.{externalRead, externalWrite, tick, member}
 use Rattle.transcript.specs.declared.Output.{Output}
 use Rattle.command.specs.declared.Command.{Command}
 use Rattle.command.specs.Command.{commandOf, sizeAt, isLast}
@@ -27,6 +27,7 @@ execute (Command.Access w x) r = step w x r
 execute (Command.Read o) r = externalRead o r
 execute (Command.Write o x) r = externalWrite o x r
 execute (Command.Tick p) r = cond (ltb 1 p) (refused ValueTooLarge r) (tick (eqb p 1) r)
+execute (Command.Member d) r = member d r
 execute (Command.Bad n) r = refused n r
 
 -- MODEL S2, S4 and V2: the answers of the commands that the bytes hold, from a record, as far as reading goes. The number

@@ -33,6 +33,7 @@ pub fn other(c: Command, r: Machine) -> Outcome
         Command::Read { offset } => external::read(offset, r),
         Command::Write { offset, value } => external::write(offset, value, r),
         Command::Tick { prohibited } => tick_command(prohibited, r),
+        Command::Member { draw } => external::member(draw, r),
         Command::Bad(n) => Outcome {
             answer: Answer::Refused(n),
             machine: r,

@@ -1,25 +1,20 @@
--- Codes read back: in words with op1 3 the code at a place stands for the register that the place names, in others for none; and
--- what the place of a word has of the word.
+-- Codes read back: in words with its op1 the code at a place stands for the register that the place names, in others for none;
+-- and what the place of a word has of the word.
 use Prim.Native.Nat.{ℕ, _*_, _+_, _/_, _%_, _^_, _<_}
-use mathlib.Core.Bool.{Bool, true, false, cond, _&&_, _||_}
-use mathlib.Core.Path.{_≡_, refl, sym, _∙_}
+use mathlib.Core.Bool.{Bool, true, false, _&&_, _||_}
+use mathlib.Core.Path.{_≡_, refl, sym}
 use native.Mathlib.Omega.{arith}
 use borrow.Author.Tests.{le-leb, eqb-true, eq-eqb, ne-eqb}
 use lib.Dec.{leb, eqb}
 use Rattle.machine.proofs.Bools.{chosen, or-left, or-right}
-use Rattle.rules.specs.Word.{crn, crm, op2, named}
+use Rattle.rules.specs.Word.{crn, crm, op2, named, unlessOp1Differs}
 use Rattle.rules.specs.declared.Register.{Register}
-use Rattle.rules.specs.declared.Register.the-variants.{Pmevcntr, Pmswinc, Pmicntr, Other}
+use Rattle.rules.specs.declared.Register.the-variants.{Pmevcntr, Pmswinc, Pmicntr, Pmsicr, Other}
 use Rattle.word.specs.Codes.{placeOf, crnAt, codeOf, codeAt, coded}
 
--- a choice between `Other` and `Other`
-neither : (b : Bool) → cond b Other Other ≡ Other
-neither true = refl
-neither false = refl
-
--- the code of r stands for r in words with op1 3, and for none in others
+-- the code of r stands for r in words with its op1, and for none in others
 abbrev ReadBack : ℕ → Register → Type 0
-ReadBack o r = coded (codeOf r) o ≡ cond (eqb o 3) r Other
+ReadBack o r = coded (codeOf r) o ≡ unlessOp1Differs o r
 
 counter : (o m : ℕ) → m < 32 → ReadBack o (Pmevcntr m)
 unfolding coded
@@ -29,11 +24,7 @@ counter o m h =
     let low : (32 + m) % 32 ≡ m = omega arith in
     simp (op1, number, low, le-leb 32 (32 + m) (omega arith))
 
-none : (o : ℕ) → ReadBack o Other
-unfolding coded
-none o = neither (eqb o 0) ∙ sym (neither (eqb o 3))
-
-pub read-back : (k o : ℕ) → coded (codeAt k) o ≡ cond (eqb o 3) (named (crnAt k) (k / 8 % 16) (k % 8)) Other
+pub read-back : (k o : ℕ) → coded (codeAt k) o ≡ unlessOp1Differs o (named (crnAt k) (k / 8 % 16) (k % 8))
 unfolding named codeAt coded
 read-back k o =
     let n = crnAt k in
@@ -41,7 +32,8 @@ read-back k o =
     chosen (ReadBack o) (eqb n 14 && (leb 8 m && leb m 11)) (Pmevcntr (8 * (m % 4) + k % 8)) _
     (counter o (8 * (m % 4) + k % 8) (omega arith))
     (chosen (ReadBack o) (eqb n 9 && (eqb m 12 && eqb (k % 8) 4)) Pmswinc _ refl
-    (chosen (ReadBack o) (eqb n 9 && (eqb m 4 && eqb (k % 8) 0)) Pmicntr Other refl (none o)))
+    (chosen (ReadBack o) (eqb n 9 && (eqb m 4 && eqb (k % 8) 0)) Pmicntr _ refl
+    (chosen (ReadBack o) (eqb n 9 && (eqb m 9 && eqb (k % 8) 2)) Pmsicr Other refl refl)))
 
 module _ (w : ℕ) where
   by-crn : (t : Bool) → eqb (crn w) 9 ≡ t → t || eqb (crn w) 14 ≡ true → crnAt (placeOf w) ≡ crn w

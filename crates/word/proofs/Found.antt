@@ -1,10 +1,10 @@
 -- What a word names, by its place in the table: the register that the code there stands for; and none where it has no place.
 use Prim.Native.Nat.{ℕ}
 use mathlib.Core.Bool.{Bool, true, false, cond, _&&_, _||_}
-use mathlib.Core.Path.{_≡_, refl, _∙_, sym}
+use mathlib.Core.Path.{_≡_, refl, _∙_, sym, ap}
 use lib.Dec.{eqb}
 use Rattle.machine.proofs.Bools.{and-left, and-right}
-use Rattle.rules.specs.Word.{isMrsMsr, op0, op1, crn, crm, op2, register}
+use Rattle.rules.specs.Word.{isMrsMsr, op0, op1, crn, crm, op2, unlessOp1Differs, register}
 use Rattle.rules.specs.declared.Register.{Register}
 use Rattle.rules.specs.declared.Register.the-variants.{Other}
 use Rattle.word.specs.Codes.{hasPlace, placeOf, codeAt, coded}
@@ -25,10 +25,14 @@ module _ (w : ℕ) where
 
   pub missed : hasPlace w ≡ false → Other ≡ register w
   unfolding register
-  missed e = none moves there (eqb (op1 w) 3) e (elsewhere (crn w) (crm w) (op2 w))
+  missed e = none moves there e (elsewhere (crn w) (crm w) (op2 w))
     where
+      neither : (b : Bool) → Other ≡ cond b Other Other
+      neither true = refl
+      neither false = refl
+
       none :
-          (a b p : Bool) {r : Register} → a && b ≡ false → (b ≡ false → r ≡ Other) → Other ≡ cond (a && p) r Other
-      none true b true e f = sym (f e)
-      none true b false e f = refl
-      none false b p e f = refl
+          (a b : Bool) {r : Register} → a && b ≡ false → (b ≡ false → r ≡ Other)
+          → Other ≡ cond a (unlessOp1Differs (op1 w) r) Other
+      none true b e f = neither (eqb (op1 w) 0) ∙ sym (ap (unlessOp1Differs (op1 w)) (f e))
+      none false b e f = refl

@@ -5,9 +5,9 @@ use mathlib.Core.Bool.{Bool, cond, _&&_, _||_}
 use mathlib.Core.List.{List, [], _∷_}
 use lib.Dec.{leb, eqb}
 use Rattle.bits.specs.Bits.{bit, bits}
-use Rattle.rules.specs.Word.{isMrsMsr, op0, crn, named}
+use Rattle.rules.specs.Word.{isMrsMsr, op0, crn, named, op1Of}
 use Rattle.rules.specs.declared.Register.{Register}
-use Rattle.rules.specs.declared.Register.the-variants.{Pmevcntr, Pmswinc, Pmicntr, Other}
+use Rattle.rules.specs.declared.Register.the-variants.{Pmevcntr, Pmswinc, Pmicntr, Pmsicr, Other}
 
 -- MODEL W10: the word has a place in the table
 abbrev pub hasPlace : ℕ → Bool
@@ -21,18 +21,12 @@ placeOf w = bits 12 5 w
 abbrev pub crnAt : ℕ → ℕ
 crnAt k = cond (bit 7 k) 9 14
 
--- MODEL W10 and W11: the op1 of a register's words, 0 for none
-abbrev pub op1Of : Register → ℕ
-op1Of (Pmevcntr m) = 3
-op1Of Pmswinc = 3
-op1Of Pmicntr = 3
-op1Of Other = 0
-
 -- MODEL W10 and W11: the number of a register in its code, 0 for none
 abbrev pub numberOf : Register → ℕ
 numberOf (Pmevcntr m) = 32 + m
 numberOf Pmswinc = 1
 numberOf Pmicntr = 2
+numberOf Pmsicr = 3
 numberOf Other = 0
 
 -- MODEL W11: the code of a register: op1 in bits 7:6, and the number below
@@ -54,7 +48,9 @@ codes = tabulate codeAt 256 0
 
 -- MODEL W11: the register with a number
 abbrev pub numbered : ℕ → Register
-numbered n = cond (leb 32 n) (Pmevcntr (n % 32)) (cond (eqb n 1) Pmswinc (cond (eqb n 2) Pmicntr Other))
+numbered n =
+    cond (leb 32 n) (Pmevcntr (n % 32))
+    (cond (eqb n 1) Pmswinc (cond (eqb n 2) Pmicntr (cond (eqb n 3) Pmsicr Other)))
 
 -- MODEL W11: the register that a code stands for in words with op1 o
 unfoldable pub coded : ℕ → ℕ → Register

@@ -28,7 +28,7 @@ fn place(w: u32) -> u8
     ((w >> 5) % 256) as u8
 }
 
-// The register that a word names: `Other` for every word that names none of the three.
+// The register that a word names: `Other` for every word that names none of the model's.
 fn register(w: u32) -> Register
     ensures { λ r. ⌜ r ≡ register w ⌝ }
 {

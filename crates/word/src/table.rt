@@ -1,5 +1,6 @@
 // The table of registers: a code for each place, which is CRn's lowest bit (0 for 14, 1 for 9), CRm and op2. A code has op1 in
-// bits 7:6 and the register's number in bits 5:0: 32 + m for event counter m, 1 for PMSWINC, 2 for PMICNTR. 0 is no register.
+// bits 7:6 and the register's number in bits 5:0: 32 + m for event counter m, 1 for PMSWINC, 2 for PMICNTR, 3 for PMSICR. 0 is no
+// register.
 ghost use mathlib.Core.Path.{_≡_};
 ghost use Rattle.word.specs.Codes.{codeAt, codes, coded};
 use rules::Register;
@@ -233,7 +234,7 @@ const REGISTERS: [u8; 256] = [
     // CRn 9, CRm 9
     0,
     0,
-    0,
+    0x03, // PMSICR_EL1
     0,
     0,
     0,
@@ -324,6 +325,7 @@ pub fn coded(code: u8, op1: u8) -> Register
     match number {
         1 => Register::Pmswinc,
         2 => Register::Pmicntr,
+        3 => Register::Pmsicr,
         _ => Register::Other,
     }
 }

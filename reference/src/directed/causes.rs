@@ -1,14 +1,22 @@
-//! MODEL D0 to D13: what stops an access, by the cause that its trap names. Each cause for each
-//! kind of access at each level, with each target; any two controls closed at once,
-//! and all of them, opened one after the other as the traps name them; stops at
-//! EL3 that are undefined and name nothing; and HPMN at each counter.
+//! MODEL D0 to D13: what stops an access, by the cause that its trap names.
+//! Each cause for each kind of access at each level, with each target; any two
+//! controls closed at once, and all of them, opened one after the other as the
+//! traps name them; stops at EL3 that are undefined and name nothing; and HPMN
+//! at each counter.
 
 use super::fields::*;
 use super::script::{Change, Kind, Script, Switch, RUNNING};
 use super::Session;
 
-const KINDS: [Kind; 5] =
-    [Kind::CounterRead, Kind::CounterWrite, Kind::Swinc, Kind::IcntrRead, Kind::IcntrWrite];
+const KINDS: [Kind; 7] = [
+    Kind::CounterRead,
+    Kind::CounterWrite,
+    Kind::Swinc,
+    Kind::IcntrRead,
+    Kind::IcntrWrite,
+    Kind::SicrRead,
+    Kind::SicrWrite,
+];
 
 /// The number of a cause, and its control: the value that stops nothing, then the
 /// one that stops the access.
@@ -24,23 +32,30 @@ fn controls(kind: Kind) -> Vec<Control> {
     let counter = |bit| vec![en, (2, (bit, 0, 1)), TPM_OF_EL2, (4, (HPMN, 4, 3)), TPM_OF_EL3];
     let (fgten2, enpm2) = ((7, (FGTEN2, 1, 0)), (6, (ENPM2, 1, 0)));
     let pmicntr = |bit| vec![fgten2, (2, (bit, 1, 0)), TPM_OF_EL2, enpm2, TPM_OF_EL3];
+    let pmsicr = |bit| vec![(2, (bit, 0, 1)), (8, (TPMS, 0, 1)), (9, (NSPB, 1, 0))];
     match kind {
         Kind::CounterRead => counter(FGT_COUNTER_READ),
         Kind::CounterWrite => counter(FGT_COUNTER_WRITE),
         Kind::Swinc => vec![en, (2, (FGT_SWINC, 0, 1)), TPM_OF_EL2, TPM_OF_EL3],
         Kind::IcntrRead => pmicntr(NPMICNTR_READ),
         Kind::IcntrWrite => pmicntr(NPMICNTR_WRITE),
+        Kind::SicrRead => pmsicr(FGT_PMSICR_READ),
+        Kind::SicrWrite => pmsicr(FGT_PMSICR_WRITE),
     }
 }
 
 /// A control of MDCR_EL3: a trap to EL3, or undefined.
 fn is_stop(control: &Control) -> bool {
-    control.0 == 5 || control.0 == 6
+    matches!(control.0, 5 | 6 | 9)
 }
 
-/// The levels at which a control stops accesses, and where its traps go.
-fn places(cause: u8) -> &'static [(u8, u8)] {
+/// The levels at which a control stops accesses, and where its traps go. PMSICR
+/// is undefined at level 0, so that nothing traps it there.
+fn places(kind: Kind, cause: u8) -> &'static [(u8, u8)] {
     match cause {
+        2 if kind.is_pmsicr() => &[(1, 2)],
+        8 => &[(1, 2)],
+        9 => &[(1, 3), (2, 3)],
         1 => &[(0, 1), (0, 2)],
         5 | 6 => &[(0, 3), (1, 3), (2, 3)],
         _ => &[(0, 2), (1, 2)],
@@ -49,7 +64,7 @@ fn places(cause: u8) -> &'static [(u8, u8)] {
 
 /// The controls of a kind of access at one level.
 fn controls_at(kind: Kind, level: u8) -> Vec<Control> {
-    let there = |cause: u8| places(cause).iter().any(|&(at, _)| at == level);
+    let there = |cause: u8| places(kind, cause).iter().any(|&(at, _)| at == level);
     controls(kind).into_iter().filter(|&(cause, _)| there(cause)).collect()
 }
 
@@ -69,10 +84,25 @@ const GIVEN: [Change; 11] = [
     (INSTRUCTIONS, 0x77),
 ];
 
+/// The same for PMSICR, with both TPM closed, which are none of its own.
+const GIVEN_PMSICR: [Change; 8] = [
+    (TPM_EL2, 1),
+    (TPM_EL3, 1),
+    (SPE, 1),
+    (ERND, 1),
+    (FGT_PMSICR_READ, 1),
+    (FGT_PMSICR_WRITE, 1),
+    (PMSICR, 0x5A00_0000_1234_5678),
+    (NV_WORD, 0x0838_0838_0838_0838),
+];
+
 /// The controls of the access are open. Those of other registers and of the other
 /// direction stay closed where they are none of its own: they are never named.
 fn script(kind: Kind) -> Script {
     let mut script = Script::counters(&GIVEN);
+    if kind.is_pmsicr() {
+        script.put(&GIVEN_PMSICR);
+    }
     open(&mut script, &controls(kind));
     if kind == Kind::Swinc {
         script.put(&RUNNING);
@@ -92,7 +122,8 @@ fn close(script: &mut Script, controls: &[Control]) {
     }
 }
 
-/// Some controls closed at once: the access, and again after each of them is opened.
+/// Some controls closed at once: the access, and again after each of them is
+/// opened.
 fn open_in_turn(script: &mut Script, kind: Kind, controls: &[Control]) {
     close(script, controls);
     script.probe(kind, 3);
@@ -165,7 +196,8 @@ const MACHINES: [(&[u8], &[Change]); 6] = [
     (&[0, 1, 2], &[(HALTED, 1), (SDD, 1)]),
 ];
 
-/// All controls of the access at once, those too that this level does not ask for.
+/// All controls of the access at once, those too that this level does not ask
+/// for.
 fn all_session(kind: Kind, level: u8) -> Vec<u8> {
     let mut script = script(kind);
     script.level(level);
@@ -198,6 +230,7 @@ fn stops(kind: Kind) -> Vec<(&'static str, Vec<Control>)> {
         [enpm2, tpm] => {
             vec![("enpm2", vec![enpm2]), ("tpm", vec![tpm]), ("enpm2-tpm", vec![enpm2, tpm])]
         }
+        _ if kind.is_pmsicr() => vec![("nspb", list)],
         _ => vec![("tpm", list)],
     }
 }
@@ -225,7 +258,7 @@ fn sessions_of(kind: Kind) -> Vec<(String, Vec<u8>)> {
     let mut list = Vec::new();
     for control in controls(kind) {
         let cause = control.0;
-        for &(level, target) in places(cause) {
+        for &(level, target) in places(kind, cause) {
             let bytes = single_session(kind, control, level, target);
             list.push((format!("{cause}-{name}-level-{level}-to-el{target}"), bytes));
         }
@@ -254,6 +287,12 @@ fn sessions_of(kind: Kind) -> Vec<(String, Vec<u8>)> {
 }
 
 pub fn sessions() -> Vec<Session> {
-    let all = KINDS.iter().flat_map(|&kind| sessions_of(kind));
-    all.map(|(name, bytes)| Session::new(format!("cause-{name}"), bytes)).collect()
+    let mut list = Vec::new();
+    for kind in KINDS {
+        let start = if kind.is_pmsicr() { "pmsicr-cause" } else { "cause" };
+        for (name, bytes) in sessions_of(kind) {
+            list.push(Session::new(format!("{start}-{name}"), bytes));
+        }
+    }
+    list
 }

@@ -1,4 +1,4 @@
-//! MODEL F2 to F16, F21 and F22: the field numbers, under Arm's names.
+//! MODEL F2 to F16 and F21 to F24: the field numbers, under Arm's names.
 
 pub const PMUV3: u8 = 0x00;
 pub const P5: u8 = 0x01;
@@ -69,6 +69,34 @@ pub const EVENT: u8 = 0x40;
 pub const COUNTER: u8 = 0x60;
 /// PMICNTR, the instruction counter.
 pub const INSTRUCTIONS: u8 = 0x7F;
+
+// MODEL F2 and F23: FEAT_SPE, PMSIDR_EL1.ERnd, PMSIRR_EL1.RND, and profiling enabled.
+pub const SPE: u8 = 0x80;
+pub const ERND: u8 = 0x81;
+pub const RND: u8 = 0x82;
+pub const PROFILING: u8 = 0x83;
+
+// HCR_EL2, MDCR_EL2, SCR_EL3, MDCR_EL3.
+pub const NV: u8 = 0x84;
+pub const NV2: u8 = 0x85;
+pub const TPMS: u8 = 0x86;
+pub const NS: u8 = 0x87;
+/// Two bits: 1 is open to NS 0 and 3 to NS 1.
+pub const NSPB: u8 = 0x88;
+
+// Fine-grained trap bits of PMSICR_EL1.
+pub const FGT_PMSICR_READ: u8 = 0x89;
+pub const FGT_PMSICR_WRITE: u8 = 0x8A;
+
+/// What the primary counter is reloaded from.
+pub const RELOAD: u8 = 0x8B;
+/// PMSICR_EL1.
+pub const PMSICR: u8 = 0x8C;
+/// The word at 0x838.
+pub const NV_WORD: u8 = 0x8D;
+
+/// The largest value of RELOAD, and of the primary counter.
+pub const ALL_COUNT: u64 = 0xFFFF_FFFF;
 
 /// No field: stands for the exception level in tables of changes, so that the
 /// level can be one of the conditions of a rule. MODEL F19: no field has it.

@@ -36,8 +36,8 @@ const GIVEN: [Change; 26] = [
     (INSTRUCTIONS, 0x77),
 ];
 
-/// The fields of one bit.
-fn bits() -> impl Iterator<Item = u8> {
+/// The fields of one bit, without those of sampling.
+pub(super) fn bits() -> impl Iterator<Item = u8> {
     (PMUV3..=EL3_PRIORITY)
         .chain(EL2_ENABLED..=SDD)
         .chain(EN..=TPM_EL2)

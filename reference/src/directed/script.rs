@@ -21,7 +21,12 @@ pub const PMOVSSET: u16 = 0xCC0;
 /// MSR PMSWINC_EL0, X1.
 pub const PMSWINC: u32 = 0xD51B_9C81;
 
-/// The accesses that have rules: MODEL T1 to T6 and I1 to I6.
+/// MRS X2, PMSICR_EL1.
+pub const PMSICR_READ: u32 = 0xD538_9942;
+/// MSR PMSICR_EL1, X1.
+pub const PMSICR_WRITE: u32 = 0xD518_9941;
+
+/// The accesses that have rules: MODEL T1 to T6, I1 to I6 and N1 to N4.
 #[derive(Clone, Copy, PartialEq, Eq)]
 pub enum Kind {
     CounterRead,
@@ -29,9 +34,17 @@ pub enum Kind {
     Swinc,
     IcntrRead,
     IcntrWrite,
+    SicrRead,
+    SicrWrite,
 }
 
 impl Kind {
+    /// MODEL N1 to N4: the names of sessions on PMSICR start with it, so that
+    /// the kind need not say it again.
+    pub fn is_pmsicr(self) -> bool {
+        self == Kind::SicrRead || self == Kind::SicrWrite
+    }
+
     pub fn name(self) -> &'static str {
         match self {
             Kind::CounterRead => "counter-read",
@@ -39,6 +52,8 @@ impl Kind {
             Kind::Swinc => "pmswinc",
             Kind::IcntrRead => "pmicntr-read",
             Kind::IcntrWrite => "pmicntr-write",
+            Kind::SicrRead => "read",
+            Kind::SicrWrite => "write",
         }
     }
 }
@@ -82,14 +97,22 @@ pub struct Script {
     serial: u64,
     /// Some command can have changed the overflow flags.
     flags: bool,
+    /// Some field from 80 to 8D was set: PMSICR and the word at 0x838 can have
+    /// changed.
+    sampling: bool,
 }
 
 // Single commands.
 impl Script {
     /// A session that starts by setting the record as given.
     pub fn new(given: &[Change]) -> Script {
-        let mut script =
-            Script { bytes: Vec::new(), values: [0; 256], serial: 0x1000, flags: false };
+        let mut script = Script {
+            bytes: Vec::new(),
+            values: [0; 256],
+            serial: 0x1000,
+            flags: false,
+            sampling: false,
+        };
         script.put(given);
         script
     }
@@ -109,6 +132,7 @@ impl Script {
     /// A set or level command that is not refused.
     pub fn set(&mut self, field: u8, value: u64) {
         self.values[field as usize] = value;
+        self.sampling |= (SPE..=NV_WORD).contains(&field);
         if field == LEVEL {
             self.bytes.extend([0x02, value as u8]);
         } else {
@@ -155,6 +179,11 @@ impl Script {
     pub fn tick(&mut self, prohibited: u8) {
         self.flags = true;
         self.bytes.extend([0x06, prohibited]);
+    }
+
+    /// A member of the sample population.
+    pub fn member(&mut self, draw: u8) {
+        self.bytes.extend([0x08, draw]);
     }
 
     /// Bytes that are no command.
@@ -222,6 +251,11 @@ impl Script {
                 self.access(word(false, 9, 4, 0, 1), self.serial);
                 self.look(word(true, 9, 4, 0, 2));
             }
+            Kind::SicrRead => self.access(PMSICR_READ, 0),
+            Kind::SicrWrite => {
+                self.access(PMSICR_WRITE, self.serial.wrapping_mul(0x0100_0001_0000_0001));
+                self.look(PMSICR_READ);
+            }
         }
     }
 
@@ -255,8 +289,38 @@ const OPEN: [Change; 13] = [
     (LEVEL, 3),
 ];
 
+/// MODEL N1 to N5 and G15: fields and values under which level 3 reads PMSICR,
+/// and level 1 the word at 0x838 in its place.
+const OPEN_SAMPLING: [Change; 16] = [
+    (PMUV3, 1),
+    (P5, 1),
+    (HPMN0, 1),
+    (HPMN, 0),
+    (HAVE_EL2, 1),
+    (HAVE_EL3, 1),
+    (EL2_ENABLED, 1),
+    (TGE, 0),
+    (SPE, 1),
+    (NV, 1),
+    (NV2, 1),
+    (TPMS, 0),
+    (FGT_PMSICR_READ, 0),
+    (NS, 0),
+    (NSPB, 1),
+    (LEVEL, 3),
+];
+
 // Ends of sessions.
 impl Script {
+    /// Sets what a list has otherwise than the record.
+    fn open(&mut self, changes: &[Change]) {
+        for &(field, value) in changes {
+            if self.values[field as usize] != value {
+                self.set(field, value);
+            }
+        }
+    }
+
     /// The end command alone.
     pub fn end(mut self) -> Vec<u8> {
         self.bytes.push(0x00);
@@ -271,11 +335,7 @@ impl Script {
     /// Reads some counters, PMICNTR and the enables, and the overflow flags if
     /// they can have changed.
     pub fn show(&mut self, counters: impl Iterator<Item = u32>) {
-        for (field, value) in OPEN {
-            if self.values[field as usize] != value {
-                self.set(field, value);
-            }
-        }
+        self.open(&OPEN);
         for m in counters {
             self.access(counter_word(true, m, m), 0);
         }
@@ -284,6 +344,28 @@ impl Script {
         if self.flags {
             self.external_read(PMOVSCLR);
         }
+        if self.sampling {
+            self.show_sampling();
+        }
+    }
+
+    /// MODEL J3: reads PMSICR, then with ERnd 1 if it was 0, so that bits 63:56
+    /// show too, and then the word at 0x838.
+    pub fn show_sampling(&mut self) {
+        self.open(&OPEN_SAMPLING);
+        self.access(PMSICR_READ, 0);
+        if self.values[ERND as usize] == 0 {
+            self.set(ERND, 1);
+            self.access(PMSICR_READ, 0);
+        }
+        self.level(1);
+        self.access(PMSICR_READ, 0);
+    }
+
+    /// Reads PMSICR and the word at 0x838, then ends.
+    pub fn finish_sampling(mut self) -> Vec<u8> {
+        self.show_sampling();
+        self.end()
     }
 
     /// Reads the counters that most sessions use, then ends.

@@ -8,7 +8,7 @@ use super::Session;
 use crate::generate::{counter_word, word};
 
 /// Consistent at each level, all features; ticks count.
-const GIVEN: [Change; 23] = [
+pub(super) const GIVEN: [Change; 23] = [
     (PMUV3, 1),
     (P5, 1),
     (P9, 1),
@@ -39,9 +39,9 @@ const GIVEN: [Change; 23] = [
 const RUNNING: [Change; 3] = [(ENABLES, ENABLE_F0 | 9), (PMCR_E, 1), (HPME, 1)];
 
 /// What makes a refusal apply, and what is changed from there, one at a time.
-type Row = (&'static str, &'static [Change], &'static [&'static [Change]]);
+pub(super) type Row = (&'static str, &'static [Change], &'static [&'static [Change]]);
 
-const ROWS: [Row; 12] = [
+pub(super) const ROWS: [Row; 12] = [
     (
         "refusal-11-level-3",
         &[(LEVEL, 3), (HAVE_EL3, 0)],
@@ -239,7 +239,7 @@ const COMMANDS: [(&str, &[Change], fn(&mut Script)); 11] = [
 /// MODEL V3: refusals together, so that the lowest number shows. R11, R12, R13,
 /// R15, R16 and R17 in all subsets that can be; then R14 in place of R12 and
 /// R13; then level 2.
-fn subsets_session(given: &[Change], command: fn(&mut Script)) -> Vec<u8> {
+pub(super) fn subsets_session(given: &[Change], command: fn(&mut Script)) -> Vec<u8> {
     let wide = (COUNTER + 30, 1 << 32);
     let mut script = Script::new(&GIVEN);
     script.put(given);

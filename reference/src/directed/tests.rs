@@ -1,6 +1,9 @@
 //! What the directed sessions reach: every answer, every refusal that a session
 //! can reach, every target and every cause of a trap, every register in both
-//! directions, every overflow flag, every way to switch a counter off.
+//! directions, every overflow flag, every way to switch a counter off. What is
+//! of PMSICR alone has a file of its own.
+
+mod sampling;
 
 use super::fields::{ALL_PMOVS, LEVEL, PMOVS};
 use super::script::{PMCNTENSET, PMOVSCLR, PMOVSSET};
@@ -40,6 +43,7 @@ fn target(command: Command) -> Option<(&'static str, bool)> {
         Register::Pmevcntr(_) => "PMEVCNTR",
         Register::Pmswinc => "PMSWINC",
         Register::Pmicntr => "PMICNTR",
+        Register::Pmsicr => "PMSICR",
     };
     Some((name, found.read))
 }
@@ -89,7 +93,7 @@ fn every_answer_is_reached() {
     let seen: BTreeSet<String> =
         all().iter().flat_map(answers).map(|answer| kind(&answer)).collect();
     let mut wanted: BTreeSet<String> =
-        ["ok", "end", "undef", "other", "error", "value"].iter().map(|s| s.to_string()).collect();
+        ["ok", "end", "undef", "other", "error", "value", "sampled"].map(str::to_string).into();
     wanted.extend((1..=3).map(|level| format!("trap {level}")));
     wanted.extend((1..=6).chain(11..=17).map(|number| format!("refused {number}")));
     assert_eq!(seen, wanted);
@@ -102,7 +106,7 @@ fn wanted(name: &str, read: bool) -> BTreeSet<String> {
     list.push("undef".to_string());
     if (name, read) != ("PMSWINC", true) {
         list.extend([passed.to_string(), "trap 2".to_string(), "trap 3".to_string()]);
-        if name != "PMICNTR" {
+        if name != "PMICNTR" && name != "PMSICR" {
             list.push("trap 1".to_string());
         }
     }
@@ -111,7 +115,7 @@ fn wanted(name: &str, read: bool) -> BTreeSet<String> {
 
 #[test]
 fn every_register_and_direction_gets_each_answer() {
-    for name in ["PMEVCNTR", "PMSWINC", "PMICNTR"] {
+    for name in ["PMEVCNTR", "PMSWINC", "PMICNTR", "PMSICR"] {
         for read in [true, false] {
             let mut seen = BTreeSet::new();
             for session in all().iter().filter(|session| session.bytes.len() <= LIMIT) {
@@ -127,17 +131,22 @@ fn every_register_and_direction_gets_each_answer() {
 }
 
 /// The causes that stop accesses to a register in one direction, in their order.
-const CAUSES: [(&str, bool, &[u8]); 5] = [
+const CAUSES: [(&str, bool, &[u8]); 7] = [
     ("PMEVCNTR", true, &[1, 2, 3, 4, 5]),
     ("PMEVCNTR", false, &[1, 2, 3, 4, 5]),
     ("PMSWINC", false, &[1, 2, 3, 5]),
     ("PMICNTR", true, &[7, 2, 3, 6, 5]),
     ("PMICNTR", false, &[7, 2, 3, 6, 5]),
+    ("PMSICR", true, &[2, 8, 9]),
+    ("PMSICR", false, &[2, 8, 9]),
 ];
 
-/// The levels at which a cause is named, from the lowest to the highest.
-fn named_at(cause: u8) -> std::ops::RangeInclusive<u8> {
+/// The levels at which a cause is named for a register, from the lowest to the
+/// highest.
+fn named_at(name: &str, cause: u8) -> std::ops::RangeInclusive<u8> {
     match cause {
+        9 => 1..=2,
+        _ if name == "PMSICR" => 1..=1,
         1 => 0..=0,
         2 | 3 | 4 | 7 => 0..=1,
         _ => 0..=2,
@@ -187,10 +196,10 @@ fn every_cause_is_shown_where_it_can_be() {
         for &cause in causes {
             let targets: &[u8] = match cause {
                 1 => &[1, 2],
-                5 | 6 => &[3],
+                5 | 6 | 9 => &[3],
                 _ => &[2],
             };
-            for level in named_at(cause) {
+            for level in named_at(name, cause) {
                 wanted.extend(targets.iter().map(|&to| (name, read, cause, level, to)));
             }
         }
@@ -199,7 +208,7 @@ fn every_cause_is_shown_where_it_can_be() {
     for session in all().iter().filter(|session| session.bytes.len() <= LIMIT) {
         for (name, read, level, answer) in accesses(session) {
             if let Some((to, cause)) = shown_trap(&answer) {
-                let index = session.name.starts_with("cause-") as usize;
+                let index = is_called(session, "cause-") as usize;
                 seen[index].insert((name, read, cause, level, to));
             }
         }
@@ -208,13 +217,27 @@ fn every_cause_is_shown_where_it_can_be() {
     assert!(seen[0].is_subset(&wanted), "{:?}", seen[0].difference(&wanted));
 }
 
-/// The sessions of a name's start with the accesses that they try, in order: those
-/// of the first one's register and direction at its level.
+/// The name of a session starts so; PMSICR's stands in front of that.
+fn is_called(session: &Session, start: &str) -> bool {
+    session.name.strip_prefix("pmsicr-").unwrap_or(&session.name).starts_with(start)
+}
+
+/// The accesses that a session tries, in order: those of the first one's
+/// register and direction at its level. The last one of a session on PMSICR
+/// reads the word at 0x838 and is none of them.
+fn tried_by(session: &Session) -> Vec<Shown> {
+    let mut list = accesses(session);
+    if session.name.starts_with("pmsicr-") {
+        list.pop();
+    }
+    let (name, read, level, _) = list[0];
+    list.retain(|one| (one.0, one.1, one.2) == (name, read, level));
+    list
+}
+
+/// The sessions of a name's start with the accesses that they try.
 fn tried(start: &str) -> Vec<Vec<Shown>> {
-    let list = all().into_iter().filter(|session| session.name.starts_with(start));
-    let shown = list.map(|session| accesses(&session));
-    let alike = |a: &Shown, b: &Shown| (a.0, a.1, a.2) == (b.0, b.1, b.2);
-    shown.map(|list| list.iter().filter(|one| alike(one, &list[0])).cloned().collect()).collect()
+    all().iter().filter(|session| is_called(session, start)).map(tried_by).collect()
 }
 
 /// Each two causes that can meet: the earlier one is shown, when it is opened the
@@ -224,7 +247,7 @@ fn every_two_causes_meet() {
     let mut wanted = BTreeSet::new();
     for (name, read, causes) in CAUSES {
         for level in 0..=2 {
-            let there = causes.iter().filter(|&&cause| named_at(cause).contains(&level));
+            let there = causes.iter().filter(|&&cause| named_at(name, cause).contains(&level));
             let there: Vec<u8> = there.copied().collect();
             for (index, &first) in there.iter().enumerate() {
                 for &second in &there[index + 1..] {
@@ -262,7 +285,7 @@ fn all_causes_come_in_order() {
         let (name, read, level, _) = list[0];
         let found = CAUSES.iter().find(|row| (row.0, row.1) == (name, read));
         let causes = found.expect("causes").2;
-        let there = causes.iter().copied().filter(|&cause| named_at(cause).contains(&level));
+        let there = causes.iter().copied().filter(|&cause| named_at(name, cause).contains(&level));
         let mut shown: Vec<u8> = list[..=causes.len()]
             .iter()
             .filter_map(|(_, _, _, answer)| shown_trap(answer))
@@ -271,10 +294,11 @@ fn all_causes_come_in_order() {
         shown.dedup();
         assert_eq!(shown, there.collect::<Vec<u8>>(), "{name} read {read} level {level}");
         let last = &list[causes.len()].3;
-        assert_eq!(kind(last), if read { "value" } else { "ok" });
+        let passed = if read { "value" } else { "ok" };
+        assert_eq!(kind(last), if (name, level) == ("PMSICR", 0) { "undef" } else { passed });
         seen += 1;
     }
-    assert_eq!(seen, 20);
+    assert_eq!(seen, 28);
 }
 
 /// A stop at EL3 that is undefined shows that one word, at each level, whether a
@@ -284,9 +308,10 @@ fn undefined_stops_show_no_cause() {
     let mut wanted = BTreeSet::new();
     for (name, read, causes) in CAUSES {
         for level in 0..=2 {
-            let there = causes.iter().filter(|&&cause| named_at(cause).contains(&level));
-            wanted.extend(there.map(|&cause| (name, read, level, cause)));
-            wanted.insert((name, read, level, 0));
+            let there = causes.iter().filter(|&&cause| named_at(name, cause).contains(&level));
+            for &cause in there {
+                wanted.extend([(name, read, level, cause), (name, read, level, 0)]);
+            }
         }
     }
     let mut seen = BTreeSet::new();
@@ -336,12 +361,13 @@ fn every_command_that_tests_the_record_is_refused_by_each_number() {
                 Command::Read { .. } => "external read",
                 Command::Write { .. } => "external write",
                 Command::Tick { .. } => "tick",
+                Command::Member { .. } => "member",
                 _ => continue,
             };
             seen.insert((command, kind(&answer)));
         }
     }
-    for command in ["access", "external read", "external write", "tick"] {
+    for command in ["access", "external read", "external write", "tick", "member"] {
         for number in 11..=17 {
             assert!(seen.contains(&(command, format!("refused {number}"))), "{command} {number}");
         }

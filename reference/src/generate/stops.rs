@@ -1,5 +1,6 @@
-//! MODEL D0 and D10: random accesses that are stopped, and by what: some of their
-//! controls are closed and then opened again, mostly the one that stops the access.
+//! MODEL D0 and D10: random accesses that are stopped, and by what: some of
+//! their controls are closed and then opened again, mostly the one that stops
+//! the access.
 
 use super::*;
 
@@ -9,14 +10,14 @@ type Control = (u8, u64, u64);
 
 // Accesses that are stopped, and by what.
 impl Writer {
-    /// An access while some of its controls are closed, and again as they are opened
-    /// one by one: mostly that which stops it now, else any.
+    /// An access while some of its controls are closed, and again as they are
+    /// opened one by one: mostly that which stops it now, else any.
     pub(super) fn stop_access(&mut self) {
         let before = self.machine.clone();
         self.make_stoppable();
-        let level = self.rng.pick(&[0, 0, 1, 1, 2]);
+        let (word, levels, controls) = self.stoppable();
+        let level = self.rng.pick(&levels);
         self.level_or_0(level);
-        let (word, controls) = self.stoppable();
         for &(field, open, closed) in &controls {
             match self.rng.below(10) {
                 0..=4 => self.set(field, closed),
@@ -66,6 +67,7 @@ impl Writer {
             (m.fgten, 0x2A),
             (m.fgt2, 0x05),
             (m.icntr || !m.pmuv3, 0x03),
+            (m.spe, 0x80),
         ];
         for (there, field) in list {
             if !there && self.rng.chance(75) {
@@ -82,7 +84,7 @@ impl Writer {
     }
 
     /// What make_stoppable changes, but for HPMN: fields and their values.
-    fn stage(machine: &Machine) -> [(u8, bool); 9] {
+    fn stage(machine: &Machine) -> [(u8, bool); 10] {
         [
             (0x10, machine.el2_enabled),
             (0x09, machine.have_el2),
@@ -91,6 +93,7 @@ impl Writer {
             (0x2A, machine.fgten),
             (0x05, machine.fgt2),
             (0x03, machine.icntr),
+            (0x80, machine.spe),
             (0x25, machine.tge),
             (0x11, machine.halted),
         ]
@@ -110,28 +113,46 @@ impl Writer {
         }
     }
 
-    /// An access and its controls.
-    fn stoppable(&mut self) -> (u32, Vec<Control>) {
+    /// An access, the levels that it is made at, and its controls.
+    fn stoppable(&mut self) -> (u32, [u8; 5], Vec<Control>) {
         let rt = self.rng.below(32) as u32;
         let read = self.rng.chance(50);
+        let levels = [0, 0, 1, 1, 2];
         let (tpm_el2, tpm_el3) = ((0x26, 0, 1), (0x28, 0, 1));
-        match self.rng.below(10) {
+        match self.rng.below(13) {
             0..=3 => {
                 let (m, hpmn) = self.counter_and_hpmn();
                 let bit = if read { 0x2C } else { 0x2D };
                 let controls = vec![(0x20, 1, 0), (bit, 0, 1), tpm_el2, hpmn, tpm_el3];
-                (counter_word(read, m, rt), controls)
+                (counter_word(read, m, rt), levels, controls)
             }
             4 | 5 => {
                 let controls = vec![(0x20, 1, 0), (0x21, 1, 0), (0x2E, 0, 1), tpm_el2, tpm_el3];
-                (word(false, 9, 12, 4, rt), controls)
+                (word(false, 9, 12, 4, rt), levels, controls)
             }
-            _ => {
+            6..=9 => {
                 let bit = if read { 0x2F } else { 0x30 };
                 let controls = vec![(0x2B, 1, 0), (bit, 1, 0), tpm_el2, (0x29, 1, 0), tpm_el3];
-                (word(read, 9, 4, 0, rt), controls)
+                (word(read, 9, 4, 0, rt), levels, controls)
             }
+            _ => (pmsicr_word(read, rt), [0, 1, 1, 1, 2], self.pmsicr_controls(read)),
         }
+    }
+
+    /// The controls of PMSICR. NSPB 1 is open where NS is 0, and 3 where it is
+    /// 1; NS can stand in for NSPB.
+    fn pmsicr_controls(&mut self, read: bool) -> Vec<Control> {
+        let bit = if read { 0x89 } else { 0x8A };
+        let ns = self.machine.ns as u64;
+        let open = ns << 1 | 1;
+        let closed = self.rng.below(3);
+        let closed = if closed < open { closed } else { closed + 1 };
+        let nspb = if self.rng.chance(80) || self.machine.nspb as u64 != open {
+            (0x88, open, closed)
+        } else {
+            (0x87, ns, 1 - ns)
+        };
+        vec![(bit, 0, 1), (0x86, 0, 1), nspb]
     }
 
     /// A counter below N, if there is one, and HPMN as its control.

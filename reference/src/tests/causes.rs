@@ -1,7 +1,7 @@
-//! MODEL D0 to D13: the causes of traps. Under every setting of the controls that
-//! an order of traps looks at, the first control that is closed is named, and to open
-//! it alone is enough to be rid of the cause; the line ends with its number; and
-//! random sessions meet each of them.
+//! MODEL D0 to D13: the causes of traps. Under every setting of the controls
+//! that an order of traps looks at, the first control that is closed is named,
+//! and to open it alone is enough to be rid of the cause; the line ends with
+//! its number; and random sessions meet each of them.
 
 use super::*;
 
@@ -71,8 +71,8 @@ const ORDERED: [Ordered; 5] = [
     ),
 ];
 
-/// FGT, EL3 and its trap priority, EL2 enabled, Halted, SDD, EN, SW, ER, E2H, TGE,
-/// both TPM, FGTEn and the fine-grained bits of PMEVCNTR and PMSWINC.
+/// FGT, EL3 and its trap priority, EL2 enabled, Halted, SDD, EN, SW, ER, E2H,
+/// TGE, both TPM, FGTEn and the fine-grained bits of PMEVCNTR and PMSWINC.
 const COUNTER_BITS: [u8; 17] = [
     0x04, 0x0A, 0x0B, 0x10, 0x11, 0x12, 0x20, 0x21, 0x22, 0x24, 0x25, 0x26, 0x28, 0x2A, 0x2C, 0x2D,
     0x2E,
@@ -123,9 +123,9 @@ fn expected(r: &Machine, stopping: &[u8]) -> Outcome {
     }
 }
 
-/// One access: the first control that would stop it is named. Where it traps, each
-/// way to open this control is enough to be rid of the cause, and to open any other one
-/// changes nothing.
+/// One access: the first control that would stop it is named. Where it traps,
+/// each way to open this control is enough to be rid of the cause, and to open
+/// any other one changes nothing.
 fn check_cause(machine: &Machine, word: u32, controls: &[Control]) -> Outcome {
     let got = outcome(machine.clone().access(word, 0));
     let stopping = alone(machine, word, controls);
@@ -147,10 +147,11 @@ fn check_cause(machine: &Machine, word: u32, controls: &[Control]) -> Outcome {
 /// order of traps does not look at; EL2 can be missing where it is not enabled.
 fn setting(rng: &mut Rng, bits: &[u8], number: u32) -> Machine {
     let mut machine = Machine::default();
-    let random = rng.next();
-    for (index, field) in (0x00..=0x3E).enumerate() {
+    let mut random = rng.next();
+    for field in (0x00..=0x3E).chain(0x80..=0x8A) {
         if Machine::largest(field) == Some(1) && field != 0x02 {
-            machine.set(field, random >> index & 1);
+            machine.set(field, random & 1);
+            random >>= 1;
         }
     }
     for (field, value) in [(0x00, 1), (0x03, 1), (0x0C, 6)] {
@@ -164,8 +165,8 @@ fn setting(rng: &mut Rng, bits: &[u8], number: u32) -> Machine {
     machine
 }
 
-/// Every setting of the bits that the orders of traps look at, HPMN at the counter
-/// or above it, at every level that the record can have.
+/// Every setting of the bits that the orders of traps look at, HPMN at the
+/// counter or above it, at every level that the record can have.
 #[test]
 fn the_cause_is_the_first_control_that_is_closed() {
     let mut rng = Rng::new(16, 17);
@@ -266,6 +267,7 @@ fn traps(bytes: &[u8]) -> BTreeSet<(&'static str, bool, u8, u8)> {
             let name = match found.register() {
                 Some(Register::Pmevcntr(_)) => "PMEVCNTR",
                 Some(Register::Pmswinc) => "PMSWINC",
+                Some(Register::Pmsicr) => "PMSICR",
                 _ => "PMICNTR",
             };
             list.insert((name, found.read, level, cause.number()));
@@ -290,6 +292,6 @@ fn generated_sessions_meet_every_cause() {
             }
         }
     }
-    assert_eq!(seen.len(), 10 + 10 + 8 + 12 + 12, "{seen:?}");
+    assert_eq!(seen.len(), 10 + 10 + 8 + 12 + 12 + 4 + 4, "{seen:?}");
     assert!(seen.values().all(|&count| count > 30), "{seen:?}");
 }

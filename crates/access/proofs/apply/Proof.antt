@@ -1,4 +1,4 @@
--- `access::apply` meets its contract: a case for each decision and place, by the contracts of what it calls.
+-- `access::apply` meets its contract: a case for each decision, by the contracts of what it calls.
 use mathlib.Core.Path.{refl}
 use Rattle.rules.specs.Apply.{apply}
 use borrow.Author.Needs.{needs}
@@ -7,51 +7,31 @@ use Rattle.access.proofs.apply.Tie as tie
 
 returns : tie.Need-returns
 unfolding apply
-returns c =
-    λ l. simp (c .before .d .given .1) (record { answer = refl; values = refl; counters = refl })
+returns c = λ l. simp (c .before .d .given .1) (record { answer = refl; values = refl; counters = refl })
 
 returns-2 : tie.Need-returns-2
 unfolding apply
 returns-2 c =
-    let at-place = c .before .before .before in
-    let at-d2 = at-place .before .before .before in
-    λ l. simp (at-d2 .d2 .given .1, at-place .place .given .1)
-    (record { answer = simp (c .read .ensures); values = refl; counters = refl })
+    let at-d2 = c .before .before .before in
+    let at-start = at-d2 .before .before .before .before in
+    λ l. simp (at-d2 .d2 .given .1)
+    (record { answer = simp (c .shown .ensures l (at-start .args .events .now)); values = refl; counters = refl })
 
 returns-3 : tie.Need-returns-3
 unfolding apply
 returns-3 c =
-    let at-d2 = c .before .before .before in
-    λ l. simp (at-d2 .d2 .given .1, c .enum-told .given .1)
-    (record { answer = refl; values = refl; counters = refl })
+    let at-put = c .before .before in
+    let at-d3 = at-put .before .before .before in
+    λ l. simp (at-d3 .d3 .given .1)
+    (record { answer = refl; values = at-put .put .ensures l _ .1; counters = at-put .put .ensures l _ .0 })
 
 returns-4 : tie.Need-returns-4
 unfolding apply
 returns-4 c =
-    let at-store = c .before .before in
-    let at-place2 = at-store .before .before .before in
-    let at-d3 = at-place2 .before .before .before in
-    λ l. simp (at-d3 .d3 .given .1, at-place2 .place2 .given .1)
-    (record { answer = refl; values = refl; counters = at-store .store .ensures })
-
-returns-5 : tie.Need-returns-5
-unfolding apply
-returns-5 c =
-    let at-d3 = c .before .before .before in
-    λ l. simp (at-d3 .d3 .given .1, c .enum-told2 .given .1)
-    (record { answer = refl; values = refl; counters = refl })
-
-returns-6 : tie.Need-returns-6
-unfolding apply
-returns-6 c =
     let at-increment = c .before .before in
     let at-d4 = at-increment .before .before .before in
     λ l. simp (at-d4 .d4 .given .1)
-    (record {
-      answer = refl;
-      values = simp (at-increment .increment .ensures .0);
-      counters = at-increment .increment .ensures .1;
-    })
+    (record { answer = refl; values = simp (at-increment .increment .ensures .0); counters = at-increment .increment .ensures .1 })
 
 pub apply-spec : {M : Type 1} → statement M
 apply-spec =
@@ -59,21 +39,15 @@ apply-spec =
     (tie.spec
     (λ c. search needs)
     (λ c. search needs)
-    (λ c. search needs)
     (λ c κs. tt)
     (λ c. search needs)
-    (λ c. search needs)
-    (λ c. search needs)
     (λ c κs. tt)
-    (λ c. search needs)
     (λ c. search needs)
     (λ c κs. tt)
     returns
     (λ c. search needs)
     returns-2
+    (λ c. search needs)
     returns-3
     (λ c. search needs)
-    returns-4
-    returns-5
-    (λ c. search needs)
-    returns-6)
+    returns-4)

@@ -7,27 +7,26 @@ use Rattle.command.proofs.command_of.Statement.{statement}
 use Rattle.command.proofs.command_of.Tie as tie
 
 returns : tie.Need-returns
-returns c =
-    let at-start = c .before .before in
+returns c = let at-start = c .before .before in
     sym (front-none (at-start .args .t .now) (c .if1 .taken))
 
 returns-2 : tie.Need-returns-2
 returns-2 c =
     let at-start = c .before .before .before .before in
-    sym (front-unknown (at-start .args .t .now) (omega arith) (omega arith))
+    sym (front-unknown (at-start .args .t .now) (omega arith) (c .if2 .taken))
 
 returns-3 : tie.Need-returns-3
 returns-3 c =
-    let at-start = c .before .before .before .before .before .before in
-    sym (front-cut (at-start .args .t .now) (omega arith) (omega arith) (omega (arith, c .before .operand-bytes .ensures)))
+    let at-if2 = c .before .before in
+    let at-start = at-if2 .before .before .before .before in
+    sym (front-cut (at-start .args .t .now) (omega arith) (at-if2 .if2 .left) (omega (arith, c .before .operand-bytes .ensures)))
 
 returns-4 : tie.Need-returns-4
 returns-4 c =
     let at-operand-bytes = c .before .before in
-    let at-start = at-operand-bytes .before .before .before .before .before in
-    c .command-with .ensures
-    ∙ sym
-    (front-whole (at-start .args .t .now) (omega arith) (omega arith) (omega (arith, at-operand-bytes .operand-bytes .ensures)))
+    let at-if2 = at-operand-bytes .before in
+    let at-start = at-if2 .before .before .before .before in
+    c .command-with .ensures ∙ sym (front-whole (at-start .args .t .now) (omega arith) (at-if2 .if2 .left) (omega (arith, at-operand-bytes .operand-bytes .ensures)))
 
 pub command-of-spec : {M : Type 1} → statement M
 command-of-spec =

@@ -53,6 +53,11 @@ shared-slice-read-t18 c =
     let at-start = c .before .before .before in
     omega (arith, simp (c .before .match .keys6) at (at-start .pre))
 
+shared-slice-read-t20 : tie.Need-shared-slice-read-t20
+shared-slice-read-t20 c =
+    let at-start = c .before .before .before in
+    omega (arith, simp (c .before .match .keys7) at (at-start .pre))
+
 returns : tie.Need-returns
 returns c =
     let at-match = c .before .before in
@@ -99,7 +104,15 @@ returns-6 c =
 
 returns-7 : tie.Need-returns-7
 returns-7 c =
+    let at-match = c .before in
+    let at-start = at-match .before .before in
+    let byte = byte-behind (at-start .args .t .now) (omega (arith, simp (at-match .match .keys7) at (at-start .pre))) in
+    simp (at-match .match .keys7) (ap Command.Member byte)
+
+returns-8 : tie.Need-returns-8
+returns-8 c =
     simp (
+      ne-eqb _ _ (c .match .rest .0 .0 .0 .0 .0 .0 .1),
       ne-eqb _ _ (c .match .rest .0 .0 .0 .0 .0 .1),
       ne-eqb _ _ (c .match .rest .0 .0 .0 .0 .1),
       ne-eqb _ _ (c .match .rest .0 .0 .0 .1),
@@ -124,10 +137,12 @@ command-with-spec =
     (λ c. search needs)
     eight-requires-3
     shared-slice-read-t18
+    shared-slice-read-t20
     returns
     returns-2
     returns-3
     returns-4
     returns-5
     returns-6
-    returns-7)
+    returns-7
+    returns-8)

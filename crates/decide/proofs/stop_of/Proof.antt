@@ -17,8 +17,11 @@ returns-3 : tie.Need-returns-3
 returns-3 c = simp (c .before .enum-told2 .given .1) (c .pmicntr-stop .ensures)
 
 returns-4 : tie.Need-returns-4
+returns-4 c = simp (c .before .enum-told3 .given .1) (c .pmsicr-stop .ensures)
+
+returns-5 : tie.Need-returns-5
 unfolding stopOf rulesOf
-returns-4 c = simp (c .enum-told3 .given .1)
+returns-5 c = simp (c .enum-told4 .given .1)
 
 pub stop-of-spec : {M : Type 1} → statement M
 stop-of-spec =
@@ -31,7 +34,10 @@ stop-of-spec =
     (λ c. search needs)
     (λ c κs. tt)
     (λ c. search needs)
+    (λ c κs. tt)
+    (λ c. search needs)
     returns
     returns-2
     returns-3
-    returns-4)
+    returns-4
+    returns-5)

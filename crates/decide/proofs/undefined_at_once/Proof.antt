@@ -4,8 +4,7 @@ use Rattle.decide.proofs.undefined_at_once.Statement.{statement}
 use Rattle.decide.proofs.undefined_at_once.Tie as tie
 
 returns : tie.Need-returns
-returns c =
-    let at-r = c .before .before .before in
+returns c = let at-r = c .before .before .before in
     simp (at-r .r .given .1)
 
 returns-2 : tie.Need-returns-2
@@ -15,7 +14,10 @@ returns-3 : tie.Need-returns-3
 returns-3 c = simp (c .before .enum-told2 .given .1)
 
 returns-4 : tie.Need-returns-4
-returns-4 c = simp (c .enum-told3 .given .1)
+returns-4 c = simp (c .before .before .enum-told3 .given .1)
+
+returns-5 : tie.Need-returns-5
+returns-5 c = simp (c .enum-told4 .given .1)
 
 pub undefined-at-once-spec : {M : Type 1} → statement M
 undefined-at-once-spec =
@@ -25,7 +27,9 @@ undefined-at-once-spec =
     (λ c. search needs)
     (λ c. search needs)
     (λ c. search needs)
+    (λ c. search needs)
     returns
     returns-2
     returns-3
-    returns-4)
+    returns-4
+    returns-5)

@@ -22,6 +22,12 @@ returns-3 c =
     let at-q3 = c .before .before in
     simp (at-q3 .q3 .given .1) (c .tick-of .ensures)
 
+returns-4 : tie.Need-returns-4
+unfolding effectOf
+returns-4 c =
+    let at-q4 = c .before .before in
+    simp (at-q4 .q4 .given .1) (c .member-of .ensures)
+
 pub effect-of-spec : {M : Type 1} → statement M
 effect-of-spec =
     tie.close
@@ -34,6 +40,9 @@ effect-of-spec =
     (λ c κs. tt)
     (λ c. search needs)
     (λ c κs. tt)
+    (λ c. search needs)
+    (λ c κs. tt)
     returns
     returns-2
-    returns-3)
+    returns-3
+    returns-4)

@@ -51,25 +51,34 @@ returns-5 c =
     )
 
 returns-6 : tie.Need-returns-6
+unfolding textOf
 returns-6 c =
+    let at-bytes6 = c .before .before in
+    let at-enum-told6 = at-bytes6 .before .before .before in (
+      simp (at-enum-told6 .enum-told6 .given .1) (at-bytes6 .bytes6 .ensures),
+      omega (arith, at-bytes6 .bytes6 .ensures .behind),
+    )
+
+returns-7 : tie.Need-returns-7
+returns-7 c =
     let at-trap = c .before .before in
     let at-a = at-trap .before .before .before in
     simp (at-a .a .given .1) (at-trap .trap .ensures)
 
-returns-7 : tie.Need-returns-7
-returns-7 c =
+returns-8 : tie.Need-returns-8
+returns-8 c =
     let at-value = c .before .before in
     let at-a2 = at-value .before .before .before in
     simp (at-a2 .a2 .given .1) (at-value .value .ensures)
 
-returns-8 : tie.Need-returns-8
-returns-8 c =
+returns-9 : tie.Need-returns-9
+returns-9 c =
     let at-mrs = c .before .before in
     let at-a3 = at-mrs .before .before .before in
     simp (at-a3 .a3 .given .1) (at-mrs .mrs .ensures)
 
-returns-9 : tie.Need-returns-9
-returns-9 c =
+returns-10 : tie.Need-returns-10
+returns-10 c =
     let at-refused = c .before .before in
     let at-a4 = at-refused .before .before .before in
     simp (at-a4 .a4 .given .1) (at-refused .refused .ensures)
@@ -78,6 +87,9 @@ pub answer-text-spec : {M : Type 1} → statement M
 answer-text-spec =
     tie.close
     (tie.spec
+    (λ c. search needs)
+    (λ c. search needs)
+    (λ c κs. search needs)
     (λ c. search needs)
     (λ c. search needs)
     (λ c κs. search needs)
@@ -118,4 +130,6 @@ answer-text-spec =
     (λ c. search needs)
     returns-8
     (λ c. search needs)
-    returns-9)
+    returns-9
+    (λ c. search needs)
+    returns-10)

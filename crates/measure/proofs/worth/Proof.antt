@@ -3,8 +3,8 @@ use borrow.Author.Needs.{needs}
 use Rattle.measure.proofs.worth.Statement.{statement}
 use Rattle.measure.proofs.worth.Tie as tie
 
-returns-6 : tie.Need-returns-6
-returns-6 c =
+returns-7 : tie.Need-returns-7
+returns-7 c =
     let at-a = c .before .before .before in
     simp (at-a .a .given .1, c .cause-number .ensures)
 
@@ -12,6 +12,7 @@ pub worth-spec : {M : Type 1} → statement M
 worth-spec =
     tie.close
     (tie.spec
+    (λ c. search needs)
     (λ c. search needs)
     (λ c. search needs)
     (λ c. search needs)
@@ -30,7 +31,8 @@ worth-spec =
     (λ c. search needs)
     (λ c. search needs)
     (λ c. search needs)
-    returns-6
+    (λ c. search needs)
+    returns-7
     (λ c. search needs)
     (λ c. search needs)
     (λ c. search needs))

@@ -5,7 +5,7 @@ use Rattle.store.proofs.mdcr2.Tie as tie
 returns : tie.Need-returns
 unfolding Rattle.store.specs.Store.storeMdcr2
 returns c =
-    let at-pick = c .before .before .before in
+    let at-pick = c .before .before .before .before in
     simp (at-pick .pick .ensures)
 
 pub mdcr2-spec : {M : Type 1} → statement M

@@ -5,7 +5,8 @@ use Rattle.store.proofs.settings.Tie as tie
 returns : tie.Need-returns
 unfolding Rattle.store.specs.Store.storeSettings
 returns c =
-    let at-pmuacr = c .before .before in
+    let at-sampling = c .before .before in
+    let at-pmuacr = at-sampling .before in
     let at-hdfgwtr = at-pmuacr .before in
     let at-hdfgrtr = at-hdfgwtr .before in
     let at-scr = at-hdfgrtr .before in
@@ -28,6 +29,7 @@ returns c =
       at-hdfgrtr .hdfgrtr .ensures,
       at-hdfgwtr .hdfgwtr .ensures,
       at-pmuacr .pmuacr .ensures,
+      at-sampling .sampling .ensures,
       c .before .pick .ensures,
       c .external .ensures,
     )
@@ -36,6 +38,7 @@ pub settings-spec : {M : Type 1} → statement M
 settings-spec =
     tie.close
     (tie.spec
+    (λ c κs. tt)
     (λ c κs. tt)
     (λ c κs. tt)
     (λ c κs. tt)

@@ -21,7 +21,12 @@ returns-3 c =
     simp (at-enum-told2 .enum-told2 .given .1) (c .place-access2 .ensures)
 
 returns-4 : tie.Need-returns-4
-returns-4 c = simp (c .enum-told3 .given .1)
+returns-4 c =
+    let at-enum-told3 = c .before .before in
+    simp (at-enum-told3 .enum-told3 .given .1) (simp (c .before .pmsicr-place .ensures) at (c .place-access3 .ensures))
+
+returns-5 : tie.Need-returns-5
+returns-5 c = simp (c .enum-told4 .given .1)
 
 pub permitted-spec : {M : Type 1} → statement M
 permitted-spec =
@@ -37,7 +42,11 @@ permitted-spec =
     (λ c. search needs)
     (λ c κs. tt)
     (λ c. search needs)
+    (λ c κs. tt)
+    (λ c κs. tt)
+    (λ c. search needs)
     returns
     returns-2
     returns-3
-    returns-4)
+    returns-4
+    returns-5)

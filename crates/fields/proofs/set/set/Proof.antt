@@ -15,20 +15,24 @@ returns-2 c =
     (simp (at-largest .largest .ensures) at (c .if2 .taken)))
 
 returns-3 : tie.Need-returns-3
+unfolding Rattle.store.specs.Store.store
 returns-3 c =
-    let at-events2 = c .before .before in
-    let at-settings2 = at-events2 .before in
-    let at-if2 = at-settings2 .before .before .before .before .before in
+    let at-settings2 = c .before .before in
+    let at-pick = at-settings2 .before in
+    let at-values2 = at-pick .before in
+    let at-started = at-values2 .before in
+    let at-if2 = at-started .before .before .before .before .before .before .before in
     let at-if1 = at-if2 .before in
     let at-largest = at-if1 .before in
     simp (
       at-settings2 .settings2 .ensures,
-      at-events2 .events2 .ensures,
-      c .before .counters2 .ensures,
-      c .values2 .ensures,
+      c .before .events2 .ensures,
+      c .counters2 .ensures,
+      at-values2 .values2 .ensures,
+      at-started .started .ensures,
+      at-pick .pick .ensures,
     )
-    (set-stores _ _ _ (λ z. at-if1 .if1 .left (at-largest .largest .ensures ∙ z))
-    (simp (at-largest .largest .ensures) at (at-if2 .if2 .left)))
+    (set-stores _ _ _ (λ z. at-if1 .if1 .left (at-largest .largest .ensures ∙ z)) (simp (at-largest .largest .ensures) at (at-if2 .if2 .left)))
 
 pub set-spec : {M : Type 1} → statement M
 set-spec =
@@ -37,6 +41,8 @@ set-spec =
     (λ c κs. tt)
     returns
     returns-2
+    (λ c κs. tt)
+    (λ c κs. tt)
     (λ c κs. tt)
     (λ c κs. tt)
     (λ c κs. tt)

@@ -36,15 +36,23 @@ returns-5 c =
 
 returns-6 : tie.Need-returns-6
 unfolding execute
-returns-6 c = simp (c .before .c6 .given .1)
+returns-6 c =
+    let at-c6 = c .before .before in
+    simp (at-c6 .c6 .given .1) (c .member .ensures)
 
 returns-7 : tie.Need-returns-7
-returns-7 c = only-end _ _ (c .match .keys7) (c .before .pre)
+unfolding execute
+returns-7 c = simp (c .before .c7 .given .1)
+
+returns-8 : tie.Need-returns-8
+returns-8 c = only-end _ _ (c .match .keys8) (c .before .pre)
 
 pub other-spec : {M : Type 1} → statement M
 other-spec =
     tie.close
     (tie.spec
+    (λ c. search needs)
+    (λ c κs. tt)
     (λ c. search needs)
     (λ c κs. tt)
     (λ c. search needs)
@@ -62,4 +70,5 @@ other-spec =
     returns-4
     returns-5
     returns-6
-    returns-7)
+    returns-7
+    returns-8)

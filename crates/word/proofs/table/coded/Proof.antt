@@ -26,14 +26,19 @@ returns-4 c = simp (eq-eqb _ _ (c .before .before .if1 .left), c .match .keys2)
 
 returns-5 : tie.Need-returns-5
 unfolding coded
-returns-5 c =
+returns-5 c = simp (eq-eqb _ _ (c .before .before .if1 .left), c .match .keys3)
+
+returns-6 : tie.Need-returns-6
+unfolding coded
+returns-6 c =
     let at-if1 = c .before .before in
     simp (
       eq-eqb _ _ (at-if1 .if1 .left),
       lt-leb _ _ (c .before .if2 .left),
+      ne-eqb _ _ (c .match .rest .0 .0 .1),
       ne-eqb _ _ (c .match .rest .0 .1),
       ne-eqb _ _ (c .match .rest .1),
     )
 
 pub coded-spec : {M : Type 1} → statement M
-coded-spec = tie.close (tie.spec returns cast-t7 returns-2 returns-3 returns-4 returns-5)
+coded-spec = tie.close (tie.spec returns cast-t7 returns-2 returns-3 returns-4 returns-5 returns-6)
