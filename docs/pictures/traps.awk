@@ -1,13 +1,14 @@
 # The orders of traps: the start that all accesses have in common, then a column for each table.
 
 BEGIN {
-    WIDE = 1100
     MARGIN = 20
     RULE = 296 # the width of a rule,
     ARROW = 30 # of the arrow to its stop,
     STOP = 188 # of the stop,
     BAND = 52 # and of its coloured band
-    COLUMN = WIDE - 2 * MARGIN - (RULE + ARROW + STOP) # from one column to the next
+    COLUMN = 546 # from one column to the next
+    COLUMNS = split("T I N", table, " ") # one for each table
+    WIDE = 2 * MARGIN + (COLUMNS - 1) * COLUMN + RULE + ARROW + STOP
     STEP = 32 # from a rule to the next,
     SHORT = 22 # and where nothing is said between
     paint("undefined", "undef", "#E1E4E8", INK)
@@ -175,8 +176,7 @@ function told(s,    r, t) {
 }
 
 END {
-    need_table("T", 5, 5)
-    need_table("I", 5, 5)
+    for (k = 1; k <= COLUMNS; k++) need_table(table[k], 5, 5)
     order = need_clause("A2")
     sub(/^[^:]*: /, "", order)
     parts = split(order, part, "; ")
@@ -187,13 +187,15 @@ END {
 
     name = "Who stops an access, in which order, who gets the trap, and its cause"
     text(MARGIN, 36, 20, INK, name, " font-weight=\"bold\"")
-    middle = MARGIN + int(COLUMN / 2)
+    middle = MARGIN + int((COLUMNS - 1) * COLUMN / 2)
     pill(middle, 64, "an access (A1)")
     y = start(middle, 98, part, common)
-    legend(MARGIN + COLUMN + RULE + 10, 120)
+    legend(middle + COLUMN + 10, 120)
     hints(MARGIN, 120)
-    path(sprintf("M%d.5 %dv%dM%d.5 %d.5h%d", middle + RULE / 2, y, SHORT, MARGIN + RULE / 2, y + SHORT, COLUMN))
-    left = column("T", MARGIN, y + SHORT, permitted)
-    y = larger(left, column("I", MARGIN + COLUMN, y + SHORT, permitted))
-    print_picture(WIDE, y + MARGIN, name, "In order: " order told("T") told("I"))
+    path(sprintf("M%d.5 %dv%dM%d.5 %d.5h%d", middle + RULE / 2, y, SHORT, MARGIN + RULE / 2, y + SHORT, (COLUMNS - 1) * COLUMN))
+    for (k = 1; k <= COLUMNS; k++) {
+        lowest = larger(lowest, column(table[k], MARGIN + (k - 1) * COLUMN, y + SHORT, permitted))
+        said = said told(table[k])
+    }
+    print_picture(WIDE, lowest + MARGIN, name, "In order: " order said)
 }

@@ -1,6 +1,6 @@
 -- The claims of noninterference are not empty: records that differ in one hidden counter and meet all that a claim asks for, and
 -- what it says of them. Counter 5 is at or above HPMN and has no P bit; F0 is 0; every event counter is enabled. And records
--- that differ in an overflow flag.
+-- that differ in PMSICR and the word at 0x838, or in an overflow flag.
 use Prim.Native.Nat.{zero, suc}
 use mathlib.Core.Bool.{true, false, false≢true}
 use mathlib.Core.List.{List, [], _∷_}
@@ -13,7 +13,7 @@ use Rattle.rules.specs.Example.{setAll, countersOn, usual}
 use Rattle.rules.specs.declared.Place.{Place}
 use Rattle.rules.specs.declared.Place.the-variants.{Counter, Instructions, Interval, Nvmem}
 use Rattle.rules.specs.Apply.{valueAt}
-use Rattle.rules.specs.Isolation.{Named, isPlace, Start, Isolated, fromLevels, fromHpmn, withoutP, instructionCounter}
+use Rattle.rules.specs.Isolation.{Named, isPlace, Start, Isolated, fromLevels, fromHpmn, withoutP, instructionCounter, samplingCounter}
 use Rattle.rules.specs.OverflowClaims.{AlikeButOvs}
 use Rattle.rules.specs.Step.{Access, run}
 use Rattle.rules.proofs.Isolation.{noninterference}
@@ -35,6 +35,10 @@ three = setAll (countersOn ((0x23, 1) ∷ (0x65, 1) ∷ (0x7F, 2) ∷ [])) usual
 four : Machine
 four = setAll (countersOn ((0x23, 1) ∷ (0x65, 1) ∷ (0x7F, 1) ∷ (0x37, 0x20) ∷ [])) usual
 
+-- another PMSICR, and another word at 0x838
+five : Machine
+five = setAll (countersOn ((0x23, 1) ∷ (0x65, 1) ∷ (0x7F, 1) ∷ (0x8C, 1) ∷ (0x8D, 2) ∷ [])) usual
+
 start-one : Start one
 unfolding one largest set store storeSettings storeFeatures storeMdcr2 storeMdcr3 storePmuacr storeSampling setAll usual
     viewOf tooLarge refusals verdictOf
@@ -54,6 +58,11 @@ start-four : Start four
 unfolding four largest set store storeSettings storeFeatures storeMdcr2 storeMdcr3 storePmuacr storeSampling
     setAll usual viewOf tooLarge refusals verdictOf
 start-four = record { sized = refl; consistent = refl }
+
+start-five : Start five
+unfolding five largest set store storeSettings storeFeatures storeMdcr2 storeMdcr3 storePmuacr storeSampling
+    setAll usual viewOf tooLarge refusals verdictOf
+start-five = record { sized = refl; consistent = refl }
 
 -- places other than counter 5 are equal in the first two
 others :
@@ -79,6 +88,15 @@ all-but-instructions (Counter m) h e = refl
 all-but-instructions Instructions h e = absurd (false≢true (sym e))
 all-but-instructions Interval h e = refl
 all-but-instructions Nvmem h e = refl
+
+-- places other than PMSICR and the word at 0x838 are equal in the first and the fifth
+all-but-sampling :
+    (p : Place) → isPlace p ≡ true → samplingCounter (one .settings) p ≡ false → valueAt p one ≡ valueAt p five
+unfolding one five largest set store storeSettings storeFeatures storeMdcr2 storeMdcr3 storePmuacr storeSampling setAll usual
+all-but-sampling (Counter m) h e = refl
+all-but-sampling Instructions h e = refl
+all-but-sampling Interval h e = absurd (false≢true (sym e))
+all-but-sampling Nvmem h e = absurd (false≢true (sym e))
 
 from-hpmn :
     (accesses : List Access) → fromLevels 1 accesses ≡ true → Isolated (fromHpmn (one .settings)) accesses one two
@@ -118,6 +136,19 @@ instructions accesses l =
       events = refl;
       ovs = refl;
       places = all-but-instructions;
+    })
+
+sampling :
+    (accesses : List Access) → fromLevels 0 accesses ≡ true → Isolated (samplingCounter (one .settings)) accesses one five
+unfolding one five largest set store storeSettings storeFeatures storeMdcr2 storeMdcr3 storePmuacr storeSampling setAll usual
+sampling accesses l =
+    noninterference .sampling one five accesses start-one start-five refl l
+    (record {
+      level = refl;
+      settings = refl;
+      events = refl;
+      ovs = refl;
+      places = all-but-sampling;
     })
 
 flags : (accesses : List Access) → AlikeButOvs (one .values .ovs) (four .values .ovs) (run accesses one) (run accesses four)

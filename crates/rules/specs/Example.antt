@@ -9,9 +9,10 @@ use Rattle.machine.specs.declared.Machine.{Machine}
 use Rattle.machine.specs.declared.Outcome.{Outcome}
 use Rattle.machine.specs.Machine.{fresh, withLevel}
 use Rattle.fields.specs.Largest.{isField, exceeds}
+use Rattle.fields.specs.Set.{set}
 unfoldable pub use Rattle.fields.specs.Set.{setAll}
 use Rattle.rules.specs.Step.{step, Run}
-use Rattle.rules.specs.External.{externalRead, externalWrite, tick}
+use Rattle.rules.specs.External.{externalRead, externalWrite, tick, member}
 
 -- MODEL P0: one thing done to a record
 pub data Action : Type 0 where
@@ -19,6 +20,8 @@ pub data Action : Type 0 where
   read : ℕ → Action
   write : ℕ → ℕ → Action
   ticks : Bool → Action
+  members : ℕ → Action
+  sets : ℕ → ℕ → Action
 
 -- MODEL P0: what is set before, field and value; the level; what is done; what it answers; and what is then set
 pub record Example : Type 0 where
@@ -34,6 +37,8 @@ perform (access w x) r = step w x r
 perform (read o) r = externalRead o r
 perform (write o x) r = externalWrite o x r
 perform (ticks p) r = tick p r
+perform (members d) r = member d r
+perform (sets f v) r = set f v r
 
 -- MODEL P0: what they answer, in order, and the record after them
 unfoldable pub performAll : List Action → Machine → Run
@@ -137,3 +142,15 @@ mrsIcntr = access 0xD53B9402 0
 -- MODEL W6: MSR PMICNTR_EL0, X2
 abbrev pub msrIcntr : ℕ → Action
 msrIcntr x = access 0xD51B9402 x
+
+-- MODEL W12: MRS X2, PMSICR_EL1
+abbrev pub mrsSicr : Action
+mrsSicr = access 0xD5389942 0
+
+-- MODEL W12: MSR PMSICR_EL1, X2
+abbrev pub msrSicr : ℕ → Action
+msrSicr x = access 0xD5189942 x
+
+-- MODEL J4: profiling set to 1 without SPE, which reloads nothing, then SPE to 1, then these settings
+abbrev pub profilingOn : List (ℕ × ℕ) → List (ℕ × ℕ)
+profilingOn rest = (0x80, 0) ∷ (0x83, 1) ∷ (0x80, 1) ∷ rest

@@ -10,10 +10,11 @@ use Rattle.answer.specs.declared.Refusal.the-variants.{CounterTooWide, TgeAtEl1
 use Rattle.machine.specs.declared.Machine.{Machine}
 use Rattle.machine.specs.declared.Outcome.{Outcome}
 use Rattle.machine.specs.Machine.{withLevel, withOvs}
-use Rattle.machine.specs.Outcome.{says}
+use Rattle.machine.specs.Outcome.{says, refused}
 use Rattle.fields.specs.Set.{set}
+use Rattle.store.specs.Store.{store}
 use Rattle.rules.specs.Example.{Example, countersOn, perform, usual, answers, trap, gives, swinc, mrs3, msr3}
-use Rattle.rules.specs.Example.Action.{access, read, write, ticks}
+use Rattle.rules.specs.Example.Action.{access, read, write, ticks, members}
 
 -- MODEL P12 and V3: for R10 to R17
 unfoldable pub stateExamples : List Example
@@ -69,3 +70,23 @@ limitsActual row = (set 0x37 (row .0) usual .answer, perform mrs3 (withLimits (r
 -- MODEL R0: what the table says, the record as it was
 unfoldable pub limitsExpected : ℕ × Answer × Answer → Answer × Outcome
 limitsExpected row = (row .1, says (row .2) (withLimits (row .0)))
+
+-- MODEL R10: a number just above the largest of its field, in a record that only a direct caller can make
+unfoldable pub aboveLargest : List (ℕ × ℕ)
+aboveLargest =
+    (0x0C, 32)
+    ∷ (0x27, 32)
+    ∷ (0x32, 0x80000000)
+    ∷ (0x34, 0x200000000)
+    ∷ (0x88, 4)
+    ∷ (0x8B, 0x100000000)
+    ∷ []
+
+-- MODEL R10 and R0: what an access and a member answer to such a record, which stays as it was
+unfoldable pub aboveActual : ℕ × ℕ → Outcome × Outcome
+aboveActual s = let r = withLevel 1 (store (s .0) (s .1) usual) in (perform mrs3 r, perform (members 0) r)
+
+-- MODEL R10 and R0: refusal 10
+unfoldable pub aboveExpected : ℕ × ℕ → Outcome × Outcome
+aboveExpected s =
+    let r = withLevel 1 (store (s .0) (s .1) usual) in (refused FieldTooLarge r, refused FieldTooLarge r)

@@ -7,6 +7,8 @@ unfoldable pub use Rattle.rules.specs.ExamplesPermitted.{permittedExampl
 unfoldable pub use Rattle.rules.specs.ExamplesEnabled.{enabledExamples}
 unfoldable pub use Rattle.rules.specs.ExamplesExternal.{externalExamples}
 unfoldable pub use Rattle.rules.specs.ExamplesOverflow.{overflowExamples}
+unfoldable pub use Rattle.rules.specs.ExamplesPmsicr.{pmsicrTraps, pmsicrPermitted}
+unfoldable pub use Rattle.rules.specs.ExamplesSampling.{memberExamples, startExamples}
 unfoldable pub use Rattle.rules.specs.ExamplesState.{stateExamples}
 
 -- MODEL P12: all of them
@@ -18,4 +20,8 @@ further =
     ++ enabledExamples
     ++ externalExamples
     ++ overflowExamples
+    ++ pmsicrTraps
+    ++ pmsicrPermitted
+    ++ memberExamples
+    ++ startExamples
     ++ stateExamples

@@ -1,5 +1,5 @@
 -- The rules on accesses in the order of docs/MODEL.md: the instruction word, the orders of traps, the ranges of counters,
--- permitted accesses, overflow, the step, external accesses and the tick, examples, the claim of isolation, and those on the
+-- permitted accesses, overflow, the step, external accesses, ticks and members, examples, the claim of isolation, and those on the
 -- overflow flags.
 pub mod Word
 pub mod Traps
@@ -17,6 +17,8 @@ pub mod ExamplesPermitted
 pub mod ExamplesEnabled
 pub mod ExamplesExternal
 pub mod ExamplesOverflow
+pub mod ExamplesPmsicr
+pub mod ExamplesSampling
 pub mod ExamplesState
 pub mod Further
 pub mod Isolation

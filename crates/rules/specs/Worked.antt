@@ -1,13 +1,13 @@
 -- Worked examples as data: `worked` is the table of MODEL P1 to P11 (document 01: soundings), and `misreadings` has
--- those for the wrong readings MODEL Q2 to Q4; that for Q1 is P9.
+-- those for the wrong readings MODEL Q2 to Q5; that for Q1 is P9.
 use mathlib.Core.List.{List, [], _∷_}
 use Rattle.answer.specs.declared.Answer.{Answer}
 use Rattle.answer.specs.declared.Cause.the-variants.{Pmuserenr, Hpmn, Mdcr3Tpm}
 use Rattle.answer.specs.declared.Level.the-variants.{El1, El2, El3}
 use Rattle.answer.specs.declared.Refusal.the-variants.{HpmnAboveN}
 use Rattle.rules.specs.Example.{Example, countersOn, shows, answers, changes, trap, gives}
-use Rattle.rules.specs.Example.{swinc, mrs3, msr3, mrs4, mrsIcntr, msrIcntr}
-use Rattle.rules.specs.Example.Action.{access, read, write}
+use Rattle.rules.specs.Example.{swinc, mrs3, msr3, mrs4, mrsIcntr, msrIcntr, profilingOn}
+use Rattle.rules.specs.Example.Action.{access, read, write, members, sets}
 
 -- MODEL P1 to P11. Where the table gives no value, the counters that are read, and those that a counter write must leave alone,
 -- hold one; in the second half of P10 so does the instruction counter
@@ -47,7 +47,7 @@ worked =
     ((0x34, 0x18000003F) ∷ [])
     ∷ []
 
--- MODEL Q1 to Q4: examples that tell the wrong readings from the rules: here those for Q2 to Q4; that for Q1 is P9, above
+-- MODEL Q1 to Q5: examples that tell the wrong readings from the rules: here those for Q2 to Q5; that for Q1 is P9, above
 unfoldable pub misreadings : List Example
 misreadings =
     -- MODEL Q2: from HPMN on a counter traps to EL2, and below it to EL3
@@ -67,4 +67,15 @@ misreadings =
     (gives 9 ∷ Answer.Ok ∷ Answer.Ok ∷ [])
     ((0x63, 6) ∷ [])
     ∷ shows ((0x03, 1) ∷ (0x7F, 5) ∷ []) 1 (mrsIcntr ∷ msrIcntr 7 ∷ []) (gives 5 ∷ Answer.Ok ∷ []) ((0x7F, 7) ∷ [])
+    -- MODEL Q5: a register whose reserved bits alone are 1 is zero when profiling begins, with ERnd and without it; and a
+    -- secondary counter that is reserved loses nothing and selects nothing
+    ∷ changes ((0x80, 1) ∷ (0x8B, 9) ∷ (0x8C, 0x01FFFFFF00000000) ∷ [])
+    1
+    (sets 0x83 1)
+    (profilingOn ((0x8C, 0x01FFFFFF00000009) ∷ []))
+    ∷ changes ((0x80, 1) ∷ (0x81, 1) ∷ (0x8B, 9) ∷ (0x8C, 0x00FFFFFF00000000) ∷ [])
+    1
+    (sets 0x83 1)
+    (profilingOn ((0x8C, 0x00FFFFFF00000009) ∷ []))
+    ∷ changes (profilingOn ((0x8C, 0x0100000000000003) ∷ [])) 1 (members 5) ((0x8C, 0x0100000000000002) ∷ [])
     ∷ []
