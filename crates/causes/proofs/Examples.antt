@@ -5,10 +5,11 @@ use mathlib.Core.Path.{_≡_, refl}
 use Rattle.bits.specs.Bits.{fromBits}
 use Rattle.fields.specs.Largest.{largest}
 use Rattle.fields.specs.Set.{set, setAll}
+use Rattle.pmsicr.specs.Pmsicr.{implemented}
 use Rattle.state.specs.State.{viewOf, tooLarge, refusals, verdictOf}
 use Rattle.store.specs.Store.{store, storeSettings, storeFeatures, storeMdcr2, storeMdcr3, storePmuacr, storeSampling}
 use Rattle.rules.specs.Word.{named, register, syndrome, decode, written}
-use Rattle.rules.specs.Traps.{disabledTarget, stopAtEl3, counterRules, icntrRules, rulesOf, stopOf}
+use Rattle.rules.specs.Traps.{disabledTarget, stopAtEl3, counterRules, icntrRules, pmsicrRules, rulesOf, stopOf}
 use Rattle.rules.specs.Permitted.{placeAccess, addMask}
 use Rattle.rules.specs.Overflow.{raised}
 use Rattle.rules.specs.Apply.{incremented, apply}
@@ -17,12 +18,12 @@ use Rattle.rules.specs.Example.{perform, performAll, allValid, valid, usual, st
 use Rattle.causes.specs.Examples.{single, pairs}
 use Rattle.causes.specs.Opening.{inTurn, allClosed, turnsActual, turnsExpected, turnExamples}
 
--- MODEL D0 to D7: one control closed, and two
+-- MODEL D0 to D9: one control closed, and two
 pub examples-hold : map actual (single ++ pairs) ≡ map expected (single ++ pairs)
 unfolding
     largest set setAll viewOf tooLarge refusals verdictOf store storeSettings storeFeatures storeMdcr2 storeMdcr3 storePmuacr
     storeSampling
-    named register syndrome decode written disabledTarget stopAtEl3 counterRules icntrRules rulesOf stopOf
+    named register syndrome decode written disabledTarget stopAtEl3 counterRules icntrRules pmsicrRules rulesOf stopOf
     decideRegister decide apply step perform performAll usual start actual expected single pairs
 examples-hold = refl
 
@@ -36,7 +37,7 @@ pub turns-hold : map turnsActual turnExamples ≡ map turnsExpected turnExamples
 unfolding
     largest set setAll viewOf tooLarge refusals verdictOf store storeSettings storeFeatures storeMdcr2 storeMdcr3 storePmuacr
     storeSampling
-    named register syndrome decode written disabledTarget stopAtEl3 counterRules icntrRules rulesOf stopOf
-    placeAccess addMask raised incremented fromBits decideRegister decide apply step usual
+    named register syndrome decode written disabledTarget stopAtEl3 counterRules icntrRules pmsicrRules rulesOf stopOf
+    placeAccess addMask raised incremented implemented fromBits decideRegister decide apply step usual
     inTurn allClosed turnsActual turnsExpected turnExamples
 turns-hold = refl

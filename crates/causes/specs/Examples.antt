@@ -3,10 +3,12 @@
 use Prim.Native.Nat.{ℕ}
 use mathlib.Core.List.{List, [], _∷_, _++_, map}
 use Rattle.answer.specs.declared.Cause.{Cause}
-use Rattle.answer.specs.declared.Cause.the-variants.{Pmuserenr, FineGrained, Mdcr2Tpm, Hpmn, Mdcr3Tpm, EnPm2, FgtEn2}
+use Rattle.answer.specs.declared.Cause.the-variants.{Pmuserenr, FineGrained, Mdcr2Tpm, Hpmn, Mdcr3Tpm, EnPm2, FgtEn2, Tpms}
+use Rattle.answer.specs.declared.Cause.the-variants.{Nspb}
 use Rattle.answer.specs.declared.Level.{Level}
 use Rattle.answer.specs.declared.Level.the-variants.{El1, El2, El3}
 use Rattle.rules.specs.Example.{Example, Action, on, countersOn, shows, trap, swinc, mrs3, msr3, mrs4, mrsIcntr, msrIcntr}
+use Rattle.rules.specs.Example.{mrsSicr, msrSicr}
 use Rattle.rules.specs.Example.Action.{access}
 
 -- MODEL D0: each of these accesses, with its syndrome, is trapped to this level by this cause, and nothing has changed
@@ -30,7 +32,11 @@ pmswinc = (swinc 8, 0x6238E438) ∷ []
 abbrev pub pmicntr : List (Action × ℕ)
 pmicntr = (mrsIcntr, 0x6230E449) ∷ (msrIcntr 7, 0x6230E448) ∷ []
 
--- MODEL P12: for D1 to D7, one control closed
+-- MODEL W9: MRS and MSR of PMSICR
+abbrev pub pmsicr : List (Action × ℕ)
+pmsicr = (mrsSicr, 0x62342453) ∷ (msrSicr 7, 0x62342452) ∷ []
+
+-- MODEL P12: for D1 to D9, one control closed
 unfoldable pub single : List Example
 single =
     -- MODEL D1: at level 0; to EL1, and to EL2 under TGE
@@ -41,6 +47,7 @@ single =
     ∷ trapped (on (0x2C ∷ 0x2D ∷ 0x2E ∷ [])) 1 (counter3 ++ pmswinc) El2 FineGrained
     ∷ trapped (on (0x03 ∷ 0x05 ∷ [])) 0 pmicntr El2 FineGrained
     ∷ trapped (on (0x03 ∷ 0x05 ∷ [])) 1 pmicntr El2 FineGrained
+    ∷ trapped (on (0x80 ∷ 0x89 ∷ 0x8A ∷ [])) 1 pmsicr El2 FineGrained
     -- MODEL D3: at levels 0 and 1
     ∷ trapped (on (0x03 ∷ 0x26 ∷ [])) 0 (counter3 ++ pmswinc ++ pmicntr) El2 Mdcr2Tpm
     ∷ trapped (on (0x03 ∷ 0x26 ∷ [])) 1 (counter3 ++ pmswinc ++ pmicntr) El2 Mdcr2Tpm
@@ -58,6 +65,11 @@ single =
     -- MODEL D7: at levels 0 and 1
     ∷ trapped (on (0x03 ∷ 0x05 ∷ 0x0A ∷ 0x29 ∷ 0x2F ∷ 0x30 ∷ [])) 0 pmicntr El2 FgtEn2
     ∷ trapped (on (0x03 ∷ 0x05 ∷ 0x0A ∷ 0x29 ∷ 0x2F ∷ 0x30 ∷ [])) 1 pmicntr El2 FgtEn2
+    -- MODEL D8: at level 1
+    ∷ trapped (on (0x80 ∷ 0x86 ∷ [])) 1 pmsicr El2 Tpms
+    -- MODEL D9: at levels 1 and 2, with NS 0 and with NS 1
+    ∷ trapped ((0x88, 3) ∷ on (0x80 ∷ 0x0A ∷ [])) 1 pmsicr El3 Nspb
+    ∷ trapped ((0x88, 1) ∷ on (0x80 ∷ 0x0A ∷ 0x87 ∷ [])) 2 pmsicr El3 Nspb
     ∷ []
 
 -- MODEL T2: before T3, T4, T5 and T6, with these settings beside, to this target
@@ -104,6 +116,16 @@ icntrPairs level =
 abbrev pub el3Pair : ℕ → Example
 el3Pair level = trapped (on (0x03 ∷ 0x0A ∷ 0x28 ∷ [])) level pmicntr El3 EnPm2
 
+-- MODEL N2 and N3: each before those behind it, from level 1
+abbrev pub pmsicrPairs : List Example
+pmsicrPairs =
+    -- MODEL N2 before N3 and N4
+    trapped (on (0x80 ∷ 0x86 ∷ 0x89 ∷ 0x8A ∷ [])) 1 pmsicr El2 FineGrained
+    ∷ trapped (on (0x80 ∷ 0x0A ∷ 0x2A ∷ 0x89 ∷ 0x8A ∷ [])) 1 pmsicr El2 FineGrained
+    -- MODEL N3 before N4
+    ∷ trapped (on (0x80 ∷ 0x0A ∷ 0x86 ∷ [])) 1 pmsicr El2 Tpms
+    ∷ []
+
 -- MODEL P12: for D0 and D10, two controls closed, from each level at which both can stop the access: the one that is first in the
 -- order is named
 unfoldable pub pairs : List Example
@@ -115,3 +137,4 @@ pairs =
     ++ icntrPairs 0
     ++ icntrPairs 1
     ++ map el3Pair (0 ∷ 1 ∷ 2 ∷ [])
+    ++ pmsicrPairs

@@ -4,7 +4,8 @@ use mathlib.Core.List.{List, [], _∷_, _++_, map}
 use lib.ListN.{length}
 use Rattle.answer.specs.declared.Answer.{Answer}
 use Rattle.answer.specs.declared.Cause.{Cause}
-use Rattle.answer.specs.declared.Cause.the-variants.{Pmuserenr, FineGrained, Mdcr2Tpm, Hpmn, Mdcr3Tpm, EnPm2, FgtEn2}
+use Rattle.answer.specs.declared.Cause.the-variants.{Pmuserenr, FineGrained, Mdcr2Tpm, Hpmn, Mdcr3Tpm, EnPm2, FgtEn2, Tpms}
+use Rattle.answer.specs.declared.Cause.the-variants.{Nspb}
 use Rattle.answer.specs.declared.Level.{Level}
 use Rattle.answer.specs.declared.Level.the-variants.{El1, El2, El3}
 use Rattle.fields.specs.Set.{setAll}
@@ -37,13 +38,17 @@ pub record Turns : Type 0 where
   pub traps : List (Level × Cause)
   pub last : Answer
 
--- MODEL D1 to D7: the usual record, in which HPMN is 4, with EL3, ICNTR, FGT2 and FGTEn, and every control closed: EN 0, both
--- TPM 1, the fine-grained bits 1 where 1 traps; those where 0 traps, EnPM2 and FGTEn2 are 0 as before. With F0 level 0 can read
--- PMICNTR
+-- MODEL D1 to D9: the usual record, in which HPMN is 4, with EL3, ICNTR, FGT2, FGTEn and SPE, and every control closed: EN 0,
+-- both TPM and TPMS 1, the fine-grained bits 1 where 1 traps; those where 0 traps, EnPM2, FGTEn2 and NSPB are 0 as before. With
+-- F0 level 0 can read PMICNTR. NS is 1
 unfoldable pub allClosed : Machine
 allClosed =
     setAll
-    ((0x20, 0) ∷ (0x64, 9) ∷ (0x7F, 5) ∷ on (0x03 ∷ 0x05 ∷ 0x0A ∷ 0x26 ∷ 0x28 ∷ 0x2A ∷ 0x2C ∷ 0x2D ∷ 0x2E ∷ 0x33 ∷ []))
+    ((0x20, 0)
+    ∷ (0x64, 9)
+    ∷ (0x7F, 5)
+    ∷ (0x8C, 6)
+    ∷ on (0x03 ∷ 0x05 ∷ 0x0A ∷ 0x26 ∷ 0x28 ∷ 0x2A ∷ 0x2C ∷ 0x2D ∷ 0x2E ∷ 0x33 ∷ 0x80 ∷ 0x86 ∷ 0x87 ∷ 0x89 ∷ 0x8A ∷ []))
     usual
 
 -- MODEL D12: what the definitions give; answers alone are compared
@@ -70,6 +75,10 @@ swincTraps = (El2, FineGrained) ∷ (El2, Mdcr2Tpm) ∷ (El3, Mdcr3Tpm) ∷ []
 abbrev pub icntrTraps : List (Level × Cause)
 icntrTraps = (El2, FgtEn2) ∷ (El2, FineGrained) ∷ (El2, Mdcr2Tpm) ∷ (El3, EnPm2) ∷ (El3, Mdcr3Tpm) ∷ []
 
+-- MODEL N2 to N4: of PMSICR, from level 1
+abbrev pub pmsicrTraps : List (Level × Cause)
+pmsicrTraps = (El2, FineGrained) ∷ (El2, Tpms) ∷ (El3, Nspb) ∷ []
+
 -- MODEL P12: for D10 to D13, each register and direction from each level at which a control of its stops it, and one from level 3
 unfoldable pub turnExamples : List Turns
 turnExamples =
@@ -88,5 +97,9 @@ turnExamples =
     ∷ turns 2 0xD51B9C81 8 0x6238E438 ((El3, Mdcr3Tpm) ∷ []) Answer.Ok
     ∷ turns 2 0xD53B9402 0 0x6230E449 ((El3, EnPm2) ∷ (El3, Mdcr3Tpm) ∷ []) (gives 5)
     ∷ turns 2 0xD51B9402 7 0x6230E448 ((El3, EnPm2) ∷ (El3, Mdcr3Tpm) ∷ []) Answer.Ok
+    ∷ turns 1 0xD5389942 0 0x62342453 pmsicrTraps (gives 6)
+    ∷ turns 1 0xD5189942 7 0x62342452 pmsicrTraps Answer.Ok
+    ∷ turns 2 0xD5389942 0 0x62342453 ((El3, Nspb) ∷ []) (gives 6)
+    ∷ turns 2 0xD5189942 7 0x62342452 ((El3, Nspb) ∷ []) Answer.Ok
     ∷ turns 3 0xD53BE882 0 0x6238F851 [] (gives 9)
     ∷ []
