@@ -15,11 +15,12 @@ struct Kind {
 
 impl Row for Kind {
     /// EL2 with 4 of 6 counters below HPMN, EN 1, all six enabled with E and
-    /// HPME 1, and p5 or not.
+    /// HPME 1, SPE, and p5 or not.
     fn sets(&self) -> Vec<u64> {
         let features = [(0x00, 1), (0x01, self.p5), (0x0C, 6), (0x09, 1), (0x10, 1), (0x27, 4), (0x20, 1)];
         let enables = [(0x34, 0x3F), (0x3D, 1), (0x3E, 1)];
-        features.iter().chain(&enables).map(|(field, value)| field << 32 | value).collect()
+        let sampling = [(0x80, 1), (0x8C, 5)];
+        features.iter().chain(&enables).chain(&sampling).map(|(field, value)| field << 32 | value).collect()
     }
 
     /// The access again and again, with another Rt each time.
@@ -33,12 +34,14 @@ impl Row for Kind {
 }
 
 /// Counter 2 is below HPMN, and counter 5 is not, so that its read is trapped.
+/// PMSICR is undefined at level 0.
 fn rows() -> Vec<Kind> {
     let kinds = [
         ("counter read", 0xD53B_E840, 0),
         ("counter write", 0xD51B_E840, 77),
         ("PMSWINC", 0xD51B_9C80, 0x5),
         ("trapped read", 0xD53B_E8A0, 0),
+        ("PMSICR read", 0xD538_9940, 0),
     ];
     let mut rows = Vec::new();
     for (name, word, operand) in kinds {

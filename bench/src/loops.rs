@@ -48,6 +48,7 @@ fn reference_register(_: &[u64], list: &[u64], _: u64) -> u64 {
             Some(Register::Pmevcntr(m)) => m as u64,
             Some(Register::Pmswinc) => 32,
             Some(Register::Pmicntr) => 33,
+            Some(Register::Pmsicr) => 35,
             None => 34,
         });
     }

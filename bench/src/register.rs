@@ -32,6 +32,7 @@ impl Row for Kind {
 const COUNTER: u32 = 0xD53B_E840;
 const PMSWINC: u32 = 0xD51B_9C80;
 const PMICNTR: u32 = 0xD53B_9400;
+const PMSICR: u32 = 0xD538_9940;
 /// Another register with CRn 9, PMCCNTR_EL0.
 const PMCCNTR: u32 = 0xD53B_9D00;
 /// No move of a system register: ADD.
@@ -42,6 +43,7 @@ fn rows() -> Vec<Kind> {
         Kind { name: "counter", words: &[COUNTER] },
         Kind { name: "PMSWINC", words: &[PMSWINC] },
         Kind { name: "PMICNTR", words: &[PMICNTR] },
+        Kind { name: "PMSICR", words: &[PMSICR] },
         Kind { name: "other, CRn 9", words: &[PMCCNTR] },
         Kind { name: "no move", words: &[ADD] },
         Kind { name: "mixed", words: &[COUNTER, PMSWINC, PMICNTR, PMCCNTR, ADD] },

@@ -51,3 +51,10 @@ fn a_trap_names_its_cause() {
     input.extend([2, 1, 3, 0x82, 0xE8, 0x3B, 0xD5, 0, 0, 0, 0, 0, 0, 0, 0, 0]);
     assert!(lines(&input).ends_with("\n7 trap 2 6238F851 4\n8 end\n"));
 }
+
+#[test]
+fn a_member_is_sampled() {
+    let mut input = [set(0x80, 1), set(0x8B, 2), set(0x83, 1)].concat();
+    input.extend([8, 0, 8, 0, 8, 0, 0]);
+    assert!(lines(&input).ends_with("\n4 ok\n5 sampled\n6 ok\n7 end\n"));
+}
