@@ -38,14 +38,15 @@ function head(y) {
     return y + 36
 }
 
-# Row r as a box, from y down: where it ends. Its functions stand one below the other, and so do their definitions.
-function step(r, y,    i, n, m, h, made, defined) {
+# Row r as a box, from y down: where it ends. Its crates stand one below the other, and so do its functions and definitions.
+function step(r, y,    i, k, n, m, h, crate, made, defined) {
+    k = split(cell[WAY, r, 2], crate, ", ")
     n = split(cell[WAY, r, 3], made, ", ")
     m = split(cell[WAY, r, 4], defined, ", ")
-    h = 18 * larger(n, m) + 18
+    h = 18 * larger(k, larger(n, m)) + 18
     box(MARGIN, y, BOX, h, WHITE)
     text(MARGIN + 20, y + 23, 13, SOFT, cell[WAY, r, 1])
-    text(CRATE, y + 23, 14, INK, cell[WAY, r, 2], " font-weight=\"bold\"")
+    for (i = 1; i <= k; i++) text(CRATE, y + 5 + 18 * i, 14, INK, crate[i], " font-weight=\"bold\"")
     for (i = 1; i <= n; i++) text(FUNCTION, y + 5 + 18 * i, 13, INK, made[i], MONOSPACED)
     for (i = 1; i <= m; i++) text(DEFINITION, y + 5 + 18 * i, 13, SOFT, defined[i], MONOSPACED)
     return y + h

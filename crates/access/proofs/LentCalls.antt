@@ -3,7 +3,7 @@
 -- DecodedCalls.antt uses the laws on what is said and what stays.
 use Prim.Native.Nat.{ℕ}
 use mathlib.Core.Logic.{∥∥₁-map}
-use mathlib.Core.Path.{_≡_, refl, sym, _∙_, ap}
+use mathlib.Core.Path.{refl, sym, _∙_, ap}
 use borrow.Fn.World.{World}
 use Rattle.answer.specs.declared.Answer.{Answer}
 use Rattle.machine.specs.declared.Machine.{Machine}

@@ -1,6 +1,6 @@
 -- Laws of the set and level commands: one for each way that the tests can go.
 use Prim.Native.Nat.{ℕ, _<_, _≤_, _%_, _-_}
-use mathlib.Core.Bool.{Bool, true, false, cond, not, _&&_, _||_}
+use mathlib.Core.Bool.{Bool, true, false, not, _&&_, _||_}
 use mathlib.Core.List.{List}
 use mathlib.Core.Path.{_≡_, refl, sym}
 use native.Mathlib.Nat.{mod-eq-of-lt}

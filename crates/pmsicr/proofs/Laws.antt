@@ -4,7 +4,6 @@ use mathlib.Core.Bool.{Bool, true, false, _&&_}
 use mathlib.Core.Path.{_≡_, sym}
 use borrow.Author.Tests.{eq-eqb, ne-eqb}
 use lib.Dec.{eqb}
-use Rattle.pmsicr.specs.declared.Member.{Member}
 use Rattle.pmsicr.specs.Pmsicr.{primary, secondary, implemented, withPrimary, withSecondary, started}
 use Rattle.pmsicr.specs.Pmsicr.{secondaryCounts, primaryCounts}
 
@@ -43,7 +42,8 @@ module _ (ernd rnd : Bool) (reload draw x : ℕ) where
   pub primary-draws :
       primary x ≡ 1
       → ernd && rnd ≡ true
-      → record { selected = eqb draw 0; pmsicr = withSecondary draw (withPrimary reload x) } ≡ primaryCounts ernd rnd reload draw x
+      → record { selected = eqb draw 0; pmsicr = withSecondary draw (withPrimary reload x) }
+      ≡ primaryCounts ernd rnd reload draw x
   unfolding primaryCounts
   primary-draws e d = sym (rw (e, d))
 

@@ -31,7 +31,9 @@ use Rattle.rules.proofs.Applied.{put-ovs, ovs-stay-within}
 use Rattle.rules.proofs.Flags.{raised-bit, raised-keeps, raised-lt}
 
 -- a flag that is 1 stays 1
-set-stays : (d : Decision) (r : Machine) (m : ℕ) → m < flagBits → bit m (r .values .ovs) ≡ true → bit m (apply d r .machine .values .ovs) ≡ true
+set-stays :
+    (d : Decision) (r : Machine) (m : ℕ) → m < flagBits → bit m (r .values .ovs) ≡ true
+    → bit m (apply d r .machine .values .ovs) ≡ true
 unfolding apply
 set-stays (Says a) r m h e = e
 set-stays (Read p rt) r m h e = e
@@ -146,13 +148,16 @@ module _ (r₁ r₂ : Machine) (e : withOvs 0 r₁ ≡ withOvs 0 r₂) where
   flag-equal (Read p rt) m q = q
   flag-equal (Write p x) m q = ap (bit m) (put-ovs _ r₁ p) ∙ q ∙ sym (ap (bit m) (put-ovs _ r₂ p))
   flag-equal (Add mask) m q =
-      raised-alike _ _ (λ n i. overflows (e i .settings) (e i .events) mask n (getD (e i .counters) n 0)) (r₁ .values .ovs) (r₂ .values .ovs) m q
+      raised-alike _ _ (λ n i. overflows (e i .settings) (e i .events) mask n (getD (e i .counters) n 0)) (r₁ .values .ovs)
+      (r₂ .values .ovs) m q
 
 -- one access of two records that differ in the flags alone
 record Once (r₁ r₂ : Machine) (o₁ o₂ : Outcome) : Type 0 where
   answer : o₁ .answer ≡ o₂ .answer
   rest : withOvs 0 (o₁ .machine) ≡ withOvs 0 (o₂ .machine)
-  flags : (m : ℕ) → bit m (r₁ .values .ovs) ≡ bit m (r₂ .values .ovs) → bit m (o₁ .machine .values .ovs) ≡ bit m (o₂ .machine .values .ovs)
+  flags :
+      (m : ℕ) → bit m (r₁ .values .ovs) ≡ bit m (r₂ .values .ovs)
+      → bit m (o₁ .machine .values .ovs) ≡ bit m (o₂ .machine .values .ovs)
   fits₁ : exceeds (o₁ .machine .values .ovs) 0x37 ≡ false
   fits₂ : exceeds (o₂ .machine .values .ovs) 0x37 ≡ false
 

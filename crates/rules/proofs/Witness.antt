@@ -13,7 +13,8 @@ use Rattle.rules.specs.Example.{setAll, countersOn, usual}
 use Rattle.rules.specs.declared.Place.{Place}
 use Rattle.rules.specs.declared.Place.the-variants.{Counter, Instructions, Interval, Nvmem}
 use Rattle.rules.specs.Apply.{valueAt}
-use Rattle.rules.specs.Isolation.{Named, isPlace, Start, Isolated, fromLevels, fromHpmn, withoutP, instructionCounter, samplingCounter}
+use Rattle.rules.specs.Isolation.{Named, isPlace, Start, Isolated, fromLevels}
+use Rattle.rules.specs.Isolation.{fromHpmn, withoutP, instructionCounter, samplingCounter}
 use Rattle.rules.specs.OverflowClaims.{AlikeButOvs}
 use Rattle.rules.specs.Step.{Access, run}
 use Rattle.rules.proofs.Isolation.{noninterference}

@@ -1,13 +1,14 @@
 -- Worked examples as data: `worked` is the table of MODEL P1 to P11 (document 01: soundings), and `misreadings` has
 -- those for the wrong readings MODEL Q2 to Q5; that for Q1 is P9.
+use mathlib.Core.Bool.{false}
 use mathlib.Core.List.{List, [], _∷_}
 use Rattle.answer.specs.declared.Answer.{Answer}
-use Rattle.answer.specs.declared.Cause.the-variants.{Pmuserenr, Hpmn, Mdcr3Tpm}
+use Rattle.answer.specs.declared.Cause.the-variants.{Pmuserenr, FineGrained, Hpmn, Mdcr3Tpm, EnPm2, FgtEn2, Tpms}
 use Rattle.answer.specs.declared.Level.the-variants.{El1, El2, El3}
 use Rattle.answer.specs.declared.Refusal.the-variants.{HpmnAboveN}
-use Rattle.rules.specs.Example.{Example, countersOn, shows, answers, changes, trap, gives}
-use Rattle.rules.specs.Example.{swinc, mrs3, msr3, mrs4, mrsIcntr, msrIcntr, profilingOn}
-use Rattle.rules.specs.Example.Action.{access, read, write, members, sets}
+use Rattle.rules.specs.Example.{Example, on, countersOn, shows, answers, changes, trap, gives}
+use Rattle.rules.specs.Example.{swinc, mrs3, msr3, mrs4, mrsIcntr, msrIcntr, mrsSicr, profilingOn}
+use Rattle.rules.specs.Example.Action.{access, read, write, ticks, members, sets}
 
 -- MODEL P1 to P11. Where the table gives no value, the counters that are read, and those that a counter write must leave alone,
 -- hold one; in the second half of P10 so does the instruction counter
@@ -78,4 +79,24 @@ misreadings =
     (sets 0x83 1)
     (profilingOn ((0x8C, 0x00FFFFFF00000009) ∷ []))
     ∷ changes (profilingOn ((0x8C, 0x0100000000000003) ∷ [])) 1 (members 5) ((0x8C, 0x0100000000000002) ∷ [])
+    ∷ []
+
+-- MODEL P12: examples that tell wrong definitions which neither the worked examples nor a law of this crate tells: the order and
+-- the causes of PMICNTR and PMSICR, T1 before T2, the fine-grained bit of PMSWINC, and a tick without E
+unfoldable pub telling : List Example
+telling =
+    -- MODEL T1: before T2
+    answers ((0x20, 0) ∷ on (0x0A ∷ 0x0B ∷ 0x11 ∷ 0x12 ∷ 0x28 ∷ [])) 0 mrs3 Answer.Undef
+    -- MODEL T8: the bit of PMSWINC traps it, and that of counter writes does not
+    ∷ answers (on (0x2E ∷ [])) 1 (swinc 8) (trap El2 0x6238E438 FineGrained)
+    ∷ answers (on (0x2D ∷ [])) 1 (swinc 8) Answer.Ok
+    -- MODEL I1: before I4. MODEL I2, I3 and I5, with their causes
+    ∷ answers (on (0x03 ∷ 0x0A ∷ 0x0B ∷ 0x11 ∷ 0x12 ∷ 0x26 ∷ [])) 1 mrsIcntr Answer.Undef
+    ∷ answers (on (0x03 ∷ 0x05 ∷ 0x0A ∷ 0x29 ∷ 0x2F ∷ [])) 1 mrsIcntr (trap El2 0x6230E449 FgtEn2)
+    ∷ answers (on (0x03 ∷ 0x05 ∷ [])) 1 mrsIcntr (trap El2 0x6230E449 FineGrained)
+    ∷ answers (on (0x03 ∷ 0x0A ∷ [])) 1 mrsIcntr (trap El3 0x6230E449 EnPm2)
+    -- MODEL N3: before N4
+    ∷ answers (on (0x80 ∷ 0x0A ∷ 0x86 ∷ [])) 1 mrsSicr (trap El2 0x62342453 Tpms)
+    -- MODEL K1: E is 0
+    ∷ changes ((0x03, 1) ∷ (0x34, 0x100000000) ∷ []) 1 (ticks false) ((0x7F, 1) ∷ [])
     ∷ []

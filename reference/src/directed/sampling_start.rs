@@ -1,6 +1,6 @@
-//! MODEL J4: profiling that starts. With SPE a set of the profiling field from
-//! 0 to 1 reloads the primary counter of a register that is zero, reserved bits
-//! aside; no other command does.
+//! MODEL J4: profiling that starts. A set that turns it on puts the reload value
+//! into the primary counter, where there is SPE and the register is zero,
+//! reserved bits aside; no other command does.
 
 use super::fields::*;
 use super::sampling::counters;

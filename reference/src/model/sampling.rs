@@ -109,8 +109,8 @@ impl Machine {
 
 // MRS and MSR.
 impl Machine {
-    /// MDCR_EL3.NSPB[0] == '0' || MDCR_EL3.NSPB[1] != SCR_EL3.NS, FEAT_RME being
-    /// missing.
+    /// NSPB keeps the access away: its bit 0 is clear, or its bit 1 is not NS.
+    /// There is no FEAT_RME.
     fn nspb_stops(&self) -> bool {
         let owned = self.nspb & 1 == 1;
         let non_secure = self.nspb & 2 == 2;
@@ -225,9 +225,9 @@ impl Machine {
         }
     }
 
-    /// The primary counter has reached 0 and is reloaded. The member is selected,
-    /// or, with RND and ERnd, one that comes so many members later as the draw
-    /// says: with a draw of 0 it is this one.
+    /// The primary counter has reached 0 and is reloaded. This member is taken; but
+    /// with RND and ERnd it is one that comes so many later as the draw says, with
+    /// a draw of 0 this one again.
     fn end_interval(&mut self, draw: u8) -> bool {
         self.put_primary(self.reload);
         if self.rnd && self.ernd {

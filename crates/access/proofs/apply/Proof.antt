@@ -31,7 +31,11 @@ returns-4 c =
     let at-increment = c .before .before in
     let at-d4 = at-increment .before .before .before in
     λ l. simp (at-d4 .d4 .given .1)
-    (record { answer = refl; values = simp (at-increment .increment .ensures .0); counters = at-increment .increment .ensures .1 })
+    (record {
+      answer = refl;
+      values = simp (at-increment .increment .ensures .0);
+      counters = at-increment .increment .ensures .1;
+    })
 
 pub apply-spec : {M : Type 1} → statement M
 apply-spec =

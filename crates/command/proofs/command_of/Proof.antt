@@ -26,7 +26,10 @@ returns-4 c =
     let at-operand-bytes = c .before .before in
     let at-if2 = at-operand-bytes .before in
     let at-start = at-if2 .before .before .before .before in
-    c .command-with .ensures ∙ sym (front-whole (at-start .args .t .now) (omega arith) (at-if2 .if2 .left) (omega (arith, at-operand-bytes .operand-bytes .ensures)))
+    c .command-with .ensures
+    ∙ sym
+    (front-whole (at-start .args .t .now) (omega arith) (at-if2 .if2 .left)
+    (omega (arith, at-operand-bytes .operand-bytes .ensures)))
 
 pub command-of-spec : {M : Type 1} → statement M
 command-of-spec =

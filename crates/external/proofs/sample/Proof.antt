@@ -1,5 +1,5 @@
 -- `external::sample` meets its contract: the member is selected, or it is not.
-use mathlib.Core.Path.{sym, _∙_, ap}
+use mathlib.Core.Path.{sym}
 use Rattle.external.proofs.sample.Statement.{statement}
 use Rattle.external.proofs.sample.Tie as tie
 

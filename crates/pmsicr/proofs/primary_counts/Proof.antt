@@ -1,6 +1,4 @@
 -- `pmsicr::primary_counts` meets its contract: the counter is 0, above 1, or 1, and then there is a draw or not.
-use mathlib.Core.Path.{_≡_}
-use native.Mathlib.Omega.{arith}
 use borrow.Author.Needs.{needs}
 use Rattle.pmsicr.proofs.Laws.{primary-idle, primary-lower, primary-draws, primary-selects}
 use Rattle.pmsicr.proofs.primary_counts.Statement.{statement}
@@ -18,7 +16,8 @@ returns-3 : tie.Need-returns-3
 returns-3 c =
     let at-with-primary2 = c .before .before in
     let at-if2 = at-with-primary2 .before in
-    simp (c .with-secondary .ensures, at-with-primary2 .with-primary2 .ensures) (primary-draws _ _ _ _ _ (at-if2 .if2 .left) (c .before .if3 .taken))
+    simp (c .with-secondary .ensures, at-with-primary2 .with-primary2 .ensures)
+    (primary-draws _ _ _ _ _ (at-if2 .if2 .left) (c .before .if3 .taken))
 
 returns-4 : tie.Need-returns-4
 returns-4 c =

@@ -1,5 +1,5 @@
 -- `sicr::pmsicr_stop` meets its contract: a case for each rule, and one for the end of the order.
-use mathlib.Core.Bool.{Bool, true, false, _&&_}
+use mathlib.Core.Bool.{Bool}
 use mathlib.Core.Path.{_≡_, refl}
 use Rattle.machine.proofs.First.{Picks, none, _↓_, held, picked}
 use Rattle.state.specs.declared.View.{View}
@@ -24,7 +24,8 @@ unfolding pmsicrRules
 returns-2 c =
     let at-select = c .before .before .before .before .before .before .before in
     let at-nspb-bars = at-select .before in
-    row _ _ (simp (at-nspb-bars .nspb-bars .ensures) at (c .before .if1 .left) ↓ held (simp (at-select .select .ensures) at (c .if2 .taken)) refl)
+    row _ _ (simp (at-nspb-bars .nspb-bars .ensures) at (c .before .if1 .left) ↓
+    held (simp (at-select .select .ensures) at (c .if2 .taken)) refl)
 
 returns-3 : tie.Need-returns-3
 unfolding pmsicrRules
@@ -32,7 +33,8 @@ returns-3 c =
     let at-if1 = c .before .before in
     let at-select = at-if1 .before .before .before .before .before .before in
     let at-nspb-bars = at-select .before in
-    row _ _ (simp (at-nspb-bars .nspb-bars .ensures) at (at-if1 .if1 .left) ↓ simp (at-select .select .ensures) at (c .before .if2 .left) ↓ held (c .if3 .taken) refl)
+    row _ _ (simp (at-nspb-bars .nspb-bars .ensures) at (at-if1 .if1 .left) ↓
+    simp (at-select .select .ensures) at (c .before .if2 .left) ↓ held (c .if3 .taken) refl)
 
 returns-4 : tie.Need-returns-4
 unfolding pmsicrRules
@@ -42,7 +44,9 @@ returns-4 c =
     let at-if1 = at-if2 .before in
     let at-select = at-if1 .before .before .before .before .before .before in
     let at-nspb-bars = at-select .before in
-    row _ _ (simp (at-nspb-bars .nspb-bars .ensures) at (at-if1 .if1 .left) ↓ simp (at-select .select .ensures) at (at-if2 .if2 .left) ↓ at-if3 .if3 .left ↓ held (simp (at-nspb-bars .nspb-bars .ensures) at (c .before .if4 .taken)) (c .stop-at-el3 .ensures))
+    row _ _ (simp (at-nspb-bars .nspb-bars .ensures) at (at-if1 .if1 .left) ↓
+    simp (at-select .select .ensures) at (at-if2 .if2 .left) ↓ at-if3 .if3 .left ↓
+    held (simp (at-nspb-bars .nspb-bars .ensures) at (c .before .if4 .taken)) (c .stop-at-el3 .ensures))
 
 returns-5 : tie.Need-returns-5
 unfolding pmsicrRules
@@ -51,7 +55,9 @@ returns-5 c =
     let at-if1 = at-if2 .before in
     let at-select = at-if1 .before .before .before .before .before .before in
     let at-nspb-bars = at-select .before in
-    row _ _ (simp (at-nspb-bars .nspb-bars .ensures) at (at-if1 .if1 .left) ↓ simp (at-select .select .ensures) at (at-if2 .if2 .left) ↓ c .before .if3 .left ↓ simp (at-nspb-bars .nspb-bars .ensures) at (c .if4 .left) ↓ none refl)
+    row _ _ (simp (at-nspb-bars .nspb-bars .ensures) at (at-if1 .if1 .left) ↓
+    simp (at-select .select .ensures) at (at-if2 .if2 .left) ↓ c .before .if3 .left ↓
+    simp (at-nspb-bars .nspb-bars .ensures) at (c .if4 .left) ↓ none refl)
 
 pub pmsicr-stop-spec : {M : Type 1} → statement M
 pmsicr-stop-spec =

@@ -5,7 +5,8 @@ use Rattle.store.proofs.features.Tie as tie
 returns : tie.Need-returns
 unfolding Rattle.store.specs.Store.storeFeatures
 returns c =
-    let at-pick = c .before .before .before .before .before .before .before .before .before .before .before .before .before .before in
+    let at-fgt2 = c .before .before .before .before .before .before .before in
+    let at-pick = at-fgt2 .before .before .before .before .before .before .before in
     simp (at-pick .pick .ensures)
 
 pub features-spec : {M : Type 1} → statement M

@@ -1,5 +1,4 @@
 -- `decide::enabled::enabled_counters` meets its contract: its steps are those of `enabled-steps`, whose sum has 31 bits.
-use borrow.Author.Needs.{needs}
 use native.Mathlib.Omega.{arith}
 use Rattle.bits.proofs.FromBits.{fromBits-lt}
 use Rattle.rules.specs.Ranges.{counterEnabled}

@@ -1,8 +1,7 @@
 -- `decide::permitted::add_mask` meets its contract: its steps are those of `mask-steps`.
-use mathlib.Core.Bool.{Bool, not, _&&_}
+use mathlib.Core.Bool.{not, _&&_}
 use mathlib.Core.Path.{_≡_, sym, _∙_, ap}
-use Rattle.state.specs.declared.View.{View}
-use Rattle.rules.specs.Permitted.{pmuacrBinds, holdsBack}
+use Rattle.rules.specs.Permitted.{holdsBack}
 use Rattle.rules.proofs.Mask.{mask-steps}
 use Rattle.decide.proofs.permitted.add_mask.Statement.{statement}
 use Rattle.decide.proofs.permitted.add_mask.Tie as tie

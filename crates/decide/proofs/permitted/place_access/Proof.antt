@@ -1,5 +1,4 @@
 -- `decide::permitted::place_access` meets its contract: a case for each branch.
-use mathlib.Core.Path.{sym}
 use Rattle.rules.specs.Permitted.{placeAccess}
 use Rattle.decide.proofs.permitted.place_access.Statement.{statement}
 use Rattle.decide.proofs.permitted.place_access.Tie as tie

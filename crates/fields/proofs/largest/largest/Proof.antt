@@ -28,7 +28,8 @@ returns-4 c =
     let at-if2 = c .before .before in
     let at-if1 = at-if2 .before in
     let at-start = at-if1 .before in
-    picked (kinds (at-start .args .f)) (at-if1 .if1 .left ↓ at-if2 .if2 .left ↓ c .before .if3 .left ↓ held (c .if4 .taken) refl)
+    picked (kinds (at-start .args .f)) (at-if1 .if1 .left ↓ at-if2 .if2 .left ↓ c .before .if3 .left ↓
+    held (c .if4 .taken) refl)
 
 returns-5 : tie.Need-returns-5
 unfolding largest
@@ -37,7 +38,8 @@ returns-5 c =
     let at-if2 = at-if3 .before in
     let at-if1 = at-if2 .before in
     let at-start = at-if1 .before in
-    picked (kinds (at-start .args .f)) (at-if1 .if1 .left ↓ at-if2 .if2 .left ↓ at-if3 .if3 .left ↓ c .before .if4 .left ↓ held (c .if5 .taken) refl)
+    picked (kinds (at-start .args .f)) (at-if1 .if1 .left ↓ at-if2 .if2 .left ↓ at-if3 .if3 .left ↓
+    c .before .if4 .left ↓ held (c .if5 .taken) refl)
 
 returns-6 : tie.Need-returns-6
 unfolding largest
@@ -47,7 +49,8 @@ returns-6 c =
     let at-if2 = at-if3 .before in
     let at-if1 = at-if2 .before in
     let at-start = at-if1 .before in
-    picked (kinds (at-start .args .f)) (at-if1 .if1 .left ↓ at-if2 .if2 .left ↓ at-if3 .if3 .left ↓ at-if4 .if4 .left ↓ c .before .if5 .left ↓ held (c .if6 .taken) refl)
+    picked (kinds (at-start .args .f)) (at-if1 .if1 .left ↓ at-if2 .if2 .left ↓ at-if3 .if3 .left ↓ at-if4 .if4 .left ↓
+    c .before .if5 .left ↓ held (c .if6 .taken) refl)
 
 returns-7 : tie.Need-returns-7
 unfolding largest
@@ -58,7 +61,8 @@ returns-7 c =
     let at-if2 = at-if3 .before in
     let at-if1 = at-if2 .before in
     let at-start = at-if1 .before in
-    picked (kinds (at-start .args .f)) (at-if1 .if1 .left ↓ at-if2 .if2 .left ↓ at-if3 .if3 .left ↓ at-if4 .if4 .left ↓ at-if5 .if5 .left ↓ c .before .if6 .left ↓ held (c .if7 .taken) refl)
+    picked (kinds (at-start .args .f)) (at-if1 .if1 .left ↓ at-if2 .if2 .left ↓ at-if3 .if3 .left ↓ at-if4 .if4 .left ↓
+    at-if5 .if5 .left ↓ c .before .if6 .left ↓ held (c .if7 .taken) refl)
 
 returns-8 : tie.Need-returns-8
 unfolding largest
@@ -70,7 +74,8 @@ returns-8 c =
     let at-if2 = at-if3 .before in
     let at-if1 = at-if2 .before in
     let at-start = at-if1 .before in
-    picked (kinds (at-start .args .f)) (at-if1 .if1 .left ↓ at-if2 .if2 .left ↓ at-if3 .if3 .left ↓ at-if4 .if4 .left ↓ at-if5 .if5 .left ↓ at-if6 .if6 .left ↓ c .before .if7 .left ↓ held (c .if8 .taken) refl)
+    picked (kinds (at-start .args .f)) (at-if1 .if1 .left ↓ at-if2 .if2 .left ↓ at-if3 .if3 .left ↓ at-if4 .if4 .left ↓
+    at-if5 .if5 .left ↓ at-if6 .if6 .left ↓ c .before .if7 .left ↓ held (c .if8 .taken) refl)
 
 returns-9 : tie.Need-returns-9
 unfolding largest
@@ -83,7 +88,8 @@ returns-9 c =
     let at-if2 = at-if3 .before in
     let at-if1 = at-if2 .before in
     let at-start = at-if1 .before in
-    picked (kinds (at-start .args .f)) (at-if1 .if1 .left ↓ at-if2 .if2 .left ↓ at-if3 .if3 .left ↓ at-if4 .if4 .left ↓ at-if5 .if5 .left ↓ at-if6 .if6 .left ↓ at-if7 .if7 .left ↓ c .before .if8 .left ↓ held (c .if9 .taken) refl)
+    picked (kinds (at-start .args .f)) (at-if1 .if1 .left ↓ at-if2 .if2 .left ↓ at-if3 .if3 .left ↓ at-if4 .if4 .left ↓
+    at-if5 .if5 .left ↓ at-if6 .if6 .left ↓ at-if7 .if7 .left ↓ c .before .if8 .left ↓ held (c .if9 .taken) refl)
 
 returns-10 : tie.Need-returns-10
 unfolding largest
@@ -96,7 +102,8 @@ returns-10 c =
     let at-if2 = at-if3 .before in
     let at-if1 = at-if2 .before in
     let at-start = at-if1 .before in
-    picked (kinds (at-start .args .f)) (at-if1 .if1 .left ↓ at-if2 .if2 .left ↓ at-if3 .if3 .left ↓ at-if4 .if4 .left ↓ at-if5 .if5 .left ↓ at-if6 .if6 .left ↓ at-if7 .if7 .left ↓ c .before .if8 .left ↓ c .if9 .left ↓ none refl)
+    picked (kinds (at-start .args .f)) (at-if1 .if1 .left ↓ at-if2 .if2 .left ↓ at-if3 .if3 .left ↓ at-if4 .if4 .left ↓
+    at-if5 .if5 .left ↓ at-if6 .if6 .left ↓ at-if7 .if7 .left ↓ c .before .if8 .left ↓ c .if9 .left ↓ none refl)
 
 pub largest-spec : {M : Type 1} → statement M
 largest-spec =

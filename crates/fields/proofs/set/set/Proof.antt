@@ -32,7 +32,8 @@ returns-3 c =
       at-started .started .ensures,
       at-pick .pick .ensures,
     )
-    (set-stores _ _ _ (λ z. at-if1 .if1 .left (at-largest .largest .ensures ∙ z)) (simp (at-largest .largest .ensures) at (at-if2 .if2 .left)))
+    (set-stores _ _ _ (λ z. at-if1 .if1 .left (at-largest .largest .ensures ∙ z))
+    (simp (at-largest .largest .ensures) at (at-if2 .if2 .left)))
 
 pub set-spec : {M : Type 1} → statement M
 set-spec =

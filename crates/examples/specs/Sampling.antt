@@ -31,7 +31,7 @@ memberExamples =
     ∷ answers (profilingOn ((0x8C, 0x0100000000000000) ∷ [])) 1 (members 5) Answer.Ok
     -- MODEL J6, J7: both lose 1 for one member
     ∷ changes (profilingOn ((0x81, 1) ∷ (0x8C, 0x0300000000000008) ∷ [])) 1 (members 5) ((0x8C, 0x0200000000000007) ∷ [])
-    -- MODEL J8: with ERnd and RND the secondary counter becomes the draw; a draw of 0 selects at once, one of 255 does not
+    -- MODEL J8: with ERnd and RND the draw goes to the secondary counter; 0 selects at once, and 255 does not
     ∷ changes (profilingOn ((0x81, 1) ∷ (0x82, 1) ∷ (0x8B, 9) ∷ (0x8C, 1) ∷ []))
     1
     (members 255)

@@ -1,0 +1,2 @@
+-- The examples hold.
+pub mod Hold
