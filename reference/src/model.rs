@@ -54,8 +54,7 @@ pub enum Cause {
 }
 
 impl Cause {
-    /// MODEL D1 to D9: the number that document 02 gives
-    /// it.
+    /// MODEL D1 to D9: the number that document 02 gives it.
     pub fn number(self) -> u8 {
         match self {
             Cause::Pmuserenr => 1,

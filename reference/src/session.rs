@@ -1,5 +1,5 @@
-//! MODEL S1 to S6 and L1 to L3: sessions, a row of bytes in,
-//! lines out. A session always starts from the fresh machine.
+//! MODEL S1 to S6 and L1 to L3: sessions, a row of bytes in, lines out. A session
+//! always starts from the fresh machine.
 
 use crate::model::{Answer, Machine};
 

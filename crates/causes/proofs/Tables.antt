@@ -57,7 +57,7 @@ module _ (r : Machine) where
   abbrev v : View
   v = viewOf r
 
-  -- what the rules of EL3 ask for beside their controls, and T1 and I1
+  -- what the rules of EL3 ask for beside their controls, and T1, I1 and N1
   abbrev atEl3 : Bool
   atEl3 = haveEl3 v && upTo 2 v
 

@@ -44,7 +44,7 @@ memberExamples =
     -- MODEL J8: not with one of the two alone
     ∷ shows (profilingOn ((0x81, 1) ∷ (0x8B, 9) ∷ (0x8C, 1) ∷ [])) 1 (members 5 ∷ []) (Answer.Sampled ∷ []) ((0x8C, 9) ∷ [])
     ∷ shows (profilingOn ((0x82, 1) ∷ (0x8B, 9) ∷ (0x8C, 1) ∷ [])) 1 (members 5 ∷ []) (Answer.Sampled ∷ []) ((0x8C, 9) ∷ [])
-    -- MODEL J6, J8: the secondary counter loses 1 first, and what is left of it gives way to the draw
+    -- MODEL J6, J8: the secondary counter counts first, and what is left of it gives way to the draw
     ∷ changes (profilingOn ((0x81, 1) ∷ (0x82, 1) ∷ (0x8B, 9) ∷ (0x8C, 0x0300000000000001) ∷ []))
     1
     (members 5)

@@ -1,4 +1,4 @@
--- Examples of the state refusals, and of the overflow flags at their largest, as data.
+-- Examples of the state refusals, of the overflow flags at their largest, and of numbers above their largest, as data.
 use Prim.Native.Nat.{ℕ}
 use mathlib.Core.Bool.{false}
 use mathlib.Core.List.{List, [], _∷_}

@@ -13,7 +13,7 @@ use Rattle.machine.specs.Outcome.{refused, done}
 use Rattle.pmsicr.specs.Pmsicr.{started}
 use Rattle.store.specs.Store.{store}
 
--- MODEL J4: to store v to field f turns profiling from 0 to 1, with SPE
+-- MODEL J4: to store v to field f turns profiling on, which was off, with SPE
 abbrev pub turnsOn : ℕ → ℕ → Settings → Bool
 turnsOn f v s = eqb f 0x83 && eqb v 1 && not (s .sampling .profiling) && s .features .spe
 

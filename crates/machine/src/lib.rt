@@ -231,7 +231,8 @@ pub struct Settings {
     pub cnten: u64,
 }
 
-// What accesses, from inside and outside, ticks and members of the sample population change beside the event counters:
+// What accesses, from inside and outside, ticks and members of the sample population change beside the event counters, but for
+// the counter enables, which are a setting:
 // PMICNTR_EL0, the overflow flags of PMOVSSET_EL0 and PMOVSCLR_EL0, PMSICR_EL1, and the word at 0x838, NVMem[0x838].
 pub struct Values {
     pub instructions: u64,
@@ -248,7 +249,7 @@ pub const FRESH_VALUES: Values = Values {
 };
 
 // The machine record: the settings, the event number of each event counter, the exception level, the value of each event
-// counter, and the other values that commands change beside sets.
+// counter, and the other values that commands change.
 pub struct Machine {
     pub settings: Settings,
     pub events: [u16; 31],

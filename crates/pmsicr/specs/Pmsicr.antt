@@ -39,7 +39,7 @@ secondaryCounts ernd x =
     (record { selected = eqb n 1; pmsicr = withSecondary (n - 1) x })
 
 -- MODEL J7 and J8: a primary counter that is not 0 loses 1. Where it reaches 0 it is reloaded, and the member is selected; but
--- with ERnd and RND the secondary counter becomes the draw, and only a draw of 0 selects
+-- with ERnd and RND the draw goes to the secondary counter, and only a draw of 0 selects
 unfoldable pub primaryCounts : Bool → Bool → ℕ → ℕ → ℕ → Member
 primaryCounts ernd rnd reload draw x =
     let n = primary x in

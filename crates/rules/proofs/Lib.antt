@@ -14,4 +14,5 @@ pub mod Hidden
 pub mod Alike
 pub mod Isolation
 pub mod OverflowClaims
+pub mod SamplingClaim
 pub mod Witness

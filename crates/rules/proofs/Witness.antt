@@ -1,6 +1,6 @@
 -- The claims of noninterference are not empty: records that differ in one hidden counter and meet all that a claim asks for, and
--- what it says of them. Counter 5 is at or above HPMN and has no P bit; F0 is 0; every event counter is enabled. And records
--- that differ in PMSICR and the word at 0x838, or in an overflow flag.
+-- what it says of them. Counter 5 is at or above HPMN and has no P bit; F0 is 0; every event counter is enabled;
+-- SPE is there, so that EL1 reads PMSICR. And records that differ in PMSICR and the word at 0x838, or in an overflow flag.
 use Prim.Native.Nat.{zero, suc}
 use mathlib.Core.Bool.{true, false, false≢true}
 use mathlib.Core.List.{List, [], _∷_}
@@ -16,29 +16,31 @@ use Rattle.rules.specs.Apply.{valueAt}
 use Rattle.rules.specs.Isolation.{Named, isPlace, Start, Isolated, fromLevels}
 use Rattle.rules.specs.Isolation.{fromHpmn, withoutP, instructionCounter, samplingCounter}
 use Rattle.rules.specs.OverflowClaims.{AlikeButOvs}
+use Rattle.rules.specs.SamplingClaim.{AlikeButSampling}
 use Rattle.rules.specs.Step.{Access, run}
 use Rattle.rules.proofs.Isolation.{noninterference}
 use Rattle.rules.proofs.OverflowClaims.{overflow-claims}
+use Rattle.rules.proofs.SamplingClaim.{sampling-unseen}
 use Rattle.state.specs.State.{viewOf, tooLarge, refusals, verdictOf}
 
 one : Machine
-one = setAll (countersOn ((0x23, 1) ∷ (0x65, 1) ∷ (0x7F, 1) ∷ [])) usual
+one = setAll (countersOn ((0x80, 1) ∷ (0x23, 1) ∷ (0x65, 1) ∷ (0x7F, 1) ∷ [])) usual
 
 -- another value in counter 5
 two : Machine
-two = setAll (countersOn ((0x23, 1) ∷ (0x65, 2) ∷ (0x7F, 1) ∷ [])) usual
+two = setAll (countersOn ((0x80, 1) ∷ (0x23, 1) ∷ (0x65, 2) ∷ (0x7F, 1) ∷ [])) usual
 
 -- another value in PMICNTR
 three : Machine
-three = setAll (countersOn ((0x23, 1) ∷ (0x65, 1) ∷ (0x7F, 2) ∷ [])) usual
+three = setAll (countersOn ((0x80, 1) ∷ (0x23, 1) ∷ (0x65, 1) ∷ (0x7F, 2) ∷ [])) usual
 
 -- another overflow flag
 four : Machine
-four = setAll (countersOn ((0x23, 1) ∷ (0x65, 1) ∷ (0x7F, 1) ∷ (0x37, 0x20) ∷ [])) usual
+four = setAll (countersOn ((0x80, 1) ∷ (0x23, 1) ∷ (0x65, 1) ∷ (0x7F, 1) ∷ (0x37, 0x20) ∷ [])) usual
 
 -- another PMSICR, and another word at 0x838
 five : Machine
-five = setAll (countersOn ((0x23, 1) ∷ (0x65, 1) ∷ (0x7F, 1) ∷ (0x8C, 1) ∷ (0x8D, 2) ∷ [])) usual
+five = setAll (countersOn ((0x80, 1) ∷ (0x23, 1) ∷ (0x65, 1) ∷ (0x7F, 1) ∷ (0x8C, 1) ∷ (0x8D, 2) ∷ [])) usual
 
 start-one : Start one
 unfolding one largest set store storeSettings storeFeatures storeMdcr2 storeMdcr3 storePmuacr storeSampling setAll usual
@@ -151,6 +153,10 @@ sampling accesses l =
       ovs = refl;
       places = all-but-sampling;
     })
+
+unseen : (accesses : List Access) → fromLevels 0 accesses ≡ true → AlikeButSampling one five (run accesses one) (run accesses five)
+unfolding one five largest set store storeSettings storeFeatures storeMdcr2 storeMdcr3 storePmuacr storeSampling setAll usual
+unseen accesses l = sampling-unseen one five accesses l refl
 
 flags : (accesses : List Access) → AlikeButOvs (one .values .ovs) (four .values .ovs) (run accesses one) (run accesses four)
 unfolding one four largest set store storeSettings storeFeatures storeMdcr2 storeMdcr3 storePmuacr storeSampling setAll usual

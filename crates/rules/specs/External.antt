@@ -1,5 +1,5 @@
--- External accesses and the tick. What each offset's register shows, sets and clears; how far an access at an offset gets, where
--- each test stands once; what a read, a write or a tick is then to do, in one place; and the doing.
+-- External accesses, ticks and members. What each offset's register shows, sets and clears; how far an access at an offset gets,
+-- where each test stands once; what a read, a write, a tick or a member is then to do, in one place; and the doing.
 use Prim.Native.Nat.{ℕ}
 use mathlib.Core.Bool.{Bool, true, false, cond, not, _&&_, _||_}
 use mathlib.Core.List.{List, [], _∷_}
@@ -106,7 +106,7 @@ tickOf prohibited s = cond (s .features .icntr && bit 32 (s .cnten) && not prohi
 abbrev pub memberOf : ℕ → Settings → Effect
 memberOf draw s = cond (s .features .spe && s .sampling .profiling) (Sample draw) (Says Answer.Ok)
 
--- MODEL E9: the effect of a request on a consistent record; no counter and no overflow flag is looked at
+-- MODEL E9: the effect of a request on a consistent record; no counter, no overflow flag and no PMSICR is looked at
 unfoldable pub effectOf : Request → Settings → Effect
 effectOf (Read offset) s = readOf (reach false offset s) s
 effectOf (Write offset x) s = writeOf (reach true offset s) x s

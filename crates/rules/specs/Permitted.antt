@@ -1,5 +1,5 @@
--- Permitted accesses, as far as they can be decided without a counter: what reads 0, what ignores a write, and which bits of
--- PMSWINC count.
+-- Permitted accesses, as far as they can be decided without a counter: what reads 0, what ignores a write, where an access of
+-- PMSICR goes, and which bits of PMSWINC count.
 use Prim.Native.Nat.{ℕ}
 use mathlib.Core.Bool.{Bool, false, cond, not, _&&_, _||_}
 use lib.Dec.{leb, eqb}

@@ -169,8 +169,8 @@ pmsicrRule3 v = el2Enabled v && upTo 1 v && v .settings .mdcr2 .tpms
 abbrev pub pmsicrRule4 : View → Bool
 pmsicrRule4 v = haveEl3 v && upTo 2 v && nspbBars v
 
--- MODEL N1 to N4 and D0: each rule's test and its stop, with the cause, in order, from the fine-grained bit of the direction. At
--- level 0 the access is undefined before (MODEL U7)
+-- MODEL N1 to N4 and D0: each rule's test and its stop, with the cause, in order, from the fine-grained bit of the direction.
+-- Level 0 never comes here (MODEL U7), so that the tests need not leave it out
 unfoldable pub pmsicrRules : View → Bool → List (Bool × Stop)
 pmsicrRules v trapBit =
     (pmsicrRule1 v, Stop.Undef)

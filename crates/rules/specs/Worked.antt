@@ -82,7 +82,7 @@ misreadings =
     ∷ []
 
 -- MODEL P12: examples that tell wrong definitions which neither the worked examples nor a law of this crate tells: the order and
--- the causes of PMICNTR and PMSICR, T1 before T2, the fine-grained bit of PMSWINC, and a tick without E
+-- the causes of PMICNTR, the order of PMSICR and where it leads, T1 before T2, the fine-grained bit of PMSWINC, and a tick without E
 unfoldable pub telling : List Example
 telling =
     -- MODEL T1: before T2
@@ -95,8 +95,10 @@ telling =
     ∷ answers (on (0x03 ∷ 0x05 ∷ 0x0A ∷ 0x29 ∷ 0x2F ∷ [])) 1 mrsIcntr (trap El2 0x6230E449 FgtEn2)
     ∷ answers (on (0x03 ∷ 0x05 ∷ [])) 1 mrsIcntr (trap El2 0x6230E449 FineGrained)
     ∷ answers (on (0x03 ∷ 0x0A ∷ [])) 1 mrsIcntr (trap El3 0x6230E449 EnPm2)
-    -- MODEL N3: before N4
+    -- MODEL N3: before N4. MODEL N5: open by 1 while NS is 0. MODEL G15: NV alone leads nowhere else
     ∷ answers (on (0x80 ∷ 0x0A ∷ 0x86 ∷ [])) 1 mrsSicr (trap El2 0x62342453 Tpms)
+    ∷ answers ((0x88, 1) ∷ (0x8C, 5) ∷ on (0x80 ∷ 0x0A ∷ [])) 1 mrsSicr (gives 5)
+    ∷ answers ((0x8C, 5) ∷ on (0x80 ∷ 0x84 ∷ [])) 1 mrsSicr (gives 5)
     -- MODEL K1: E is 0
     ∷ changes ((0x03, 1) ∷ (0x34, 0x100000000) ∷ []) 1 (ticks false) ((0x7F, 1) ∷ [])
     ∷ []

@@ -5,6 +5,8 @@ use Rattle.fields.specs.Largest.{largest}
 use Rattle.fields.specs.Set.{set, setLevel}
 use Rattle.state.specs.State.{viewOf, tooLarge, refusals, verdictOf}
 use Rattle.store.specs.Store.{store, storeSettings, storeFeatures, storeMdcr2, storeMdcr3, storePmuacr, storeSampling}
+use Rattle.pmsicr.specs.Pmsicr.{implemented, withPrimary, withSecondary, started, secondaryCounts, primaryCounts, counted}
+use Rattle.rules.specs.External.{effectOf, member}
 use Rattle.rules.specs.Word.{named, register, syndrome, decode, written}
 use Rattle.rules.specs.Traps.{disabledTarget, stopAtEl3, counterRules, rulesOf, stopOf}
 use Rattle.rules.specs.Permitted.{placeAccess}
@@ -22,5 +24,6 @@ unfolding
     storePmuacr storeSampling
     named register syndrome decode written disabledTarget stopAtEl3 counterRules rulesOf stopOf placeAccess
     decideRegister decide apply step decimal hex commandOf textOf lineOf
+    implemented withPrimary withSecondary started secondaryCounts primaryCounts counted effectOf member
     execute answersFrom linesFrom answersOf outputOf examples
 examples-hold = refl

@@ -44,4 +44,17 @@ examples =
       input = 0x02 ∷ 0x04 ∷ 0x06 ∷ 0x02 ∷ (0x01 ∷ 0x0D ∷ v 0) ++ (0x01 ∷ []);
       output = "1 refused 5\n2 refused 4\n3 refused 3\n4 refused 2\n";
     }
+    -- MODEL S1, J5, J9 and R2: a member that does not count, one that is selected, and one without its draw
+    ∷ record {
+      input =
+          (0x08 ∷ 0x05 ∷ [])
+          ++ (0x01 ∷ 0x80 ∷ v 1)
+          ++ (0x01 ∷ 0x8B ∷ v 1)
+          ++ (0x01 ∷ 0x83 ∷ v 1)
+          ++ (0x08 ∷ 0x05 ∷ [])
+          ++ (0x08 ∷ []);
+      output = "1 ok\n2 ok\n3 ok\n4 ok\n5 sampled\n6 refused 2\n";
+    }
+    -- MODEL R1: the byte behind the last command's
+    ∷ record { input = 0x09 ∷ 0x00 ∷ []; output = "1 refused 1\n" }
     ∷ []

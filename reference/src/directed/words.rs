@@ -1,5 +1,5 @@
-//! MODEL W1 to W9 and U1 to U5: the words of the three registers, those beside
-//! them, Rt, the accesses that are undefined at once, and the syndrome.
+//! MODEL W1 to W9 and U1 to U5: the words of the registers with op1 3, those
+//! beside them, Rt, the accesses that are undefined at once, and the syndrome.
 
 use super::fields::*;
 use super::script::{Change, Script, RUNNING};
@@ -18,7 +18,7 @@ const GIVEN: [Change; 8] = [
     (LEVEL, 1),
 ];
 
-/// Makes every word of the three registers trap to EL2 where it does not read
+/// Makes every word of the registers with op1 3 trap to EL2 where it does not read
 /// as undefined.
 const TRAPPED: Change = (TPM_EL2, 1);
 

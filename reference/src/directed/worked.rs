@@ -1,5 +1,5 @@
 //! MODEL P1 to P11 and Q1 to Q4: the worked examples and the wrong readings,
-//! each as a session. Q1 has that of P9. P10 is done with counter 5.
+//! each as a session. Q5 is in sampling_start.rs. Q1 has that of P9. P10 is done with counter 5.
 
 use super::fields::*;
 use super::script::{Change, Kind, Script, PMCNTENSET, RUNNING};

@@ -1,8 +1,7 @@
 //! MODEL J1 to J9, N1 to N7, U6, U7, G15 and G16: PMSICR_EL1, the sampling
-//! interval counter register. Who may
-//! move it, the word at 0x838 that stands in for it, the bits of it that are
-//! reserved, the members of the sample population that it counts, and the reload
-//! when profiling starts.
+//! interval counter register. Who may move it, the word at 0x838 that stands in
+//! for it, the bits of it that are reserved, the members of the sample population
+//! that it counts, and the reload when profiling starts.
 //!
 //! Where the papers leave a choice: whatever looks at the register, the test
 //! for zero too, sees its reserved bits as 0; whatever changes a counter leaves
@@ -155,8 +154,7 @@ impl Machine {
         }
     }
 
-    /// EL2Enabled() && HCR_EL2.<NV2,NV> == '11', which the page asks at EL1
-    /// alone: the word at 0x838 is meant.
+    /// At EL1 alone, with EL2 enabled: NV and NV2 both set mean the word at 0x838.
     fn pmsicr_redirected(&self) -> bool {
         self.el == 1 && self.el2_enabled && self.nv2 && self.nv
     }
