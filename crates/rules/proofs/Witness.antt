@@ -154,7 +154,9 @@ sampling accesses l =
       places = all-but-sampling;
     })
 
-unseen : (accesses : List Access) → fromLevels 0 accesses ≡ true → AlikeButSampling one five (run accesses one) (run accesses five)
+unseen :
+    (accesses : List Access) → fromLevels 0 accesses ≡ true
+    → AlikeButSampling one five (run accesses one) (run accesses five)
 unfolding one five largest set store storeSettings storeFeatures storeMdcr2 storeMdcr3 storePmuacr storeSampling setAll usual
 unseen accesses l = sampling-unseen one five accesses l refl
 

@@ -82,7 +82,8 @@ misreadings =
     ∷ []
 
 -- MODEL P12: examples that tell wrong definitions which neither the worked examples nor a law of this crate tells: the order and
--- the causes of PMICNTR, the order of PMSICR and where it leads, T1 before T2, the fine-grained bit of PMSWINC, and a tick without E
+-- the causes of PMICNTR, the order of PMSICR and where it leads, T1 before T2, the fine-grained bit of PMSWINC, and a tick
+-- without E
 unfoldable pub telling : List Example
 telling =
     -- MODEL T1: before T2
