@@ -65,7 +65,7 @@ pub data Calls (call : MayGive) : List Access → Machine → List Answer → Ma
       → Calls call (a ∷ rest) r (answer ∷ answers) after
 
 -- MODEL M10: a run of calls answers and leaves what the list, run by the definition, does. So what is claimed of `run`, as
--- MODEL M11 to M13 are, holds of calls of the code
+-- MODEL M11 to M13 and M15 are, holds of calls of the code
 abbrev pub CallsRun : MayGive → Type 1
 CallsRun call =
     (accesses : List Access) (r after : Machine) (answers : List Answer)
