@@ -3,6 +3,12 @@
 //! or a second rule applies too. They are made from tables, one subject a file,
 //! and are the same every time. Most end by reading what may have changed.
 
+mod back;
+mod back_among;
+mod back_counts;
+mod back_input;
+mod back_list;
+mod back_mixed;
 mod causes;
 mod counters;
 mod external;
@@ -65,6 +71,12 @@ pub fn all() -> Vec<Session> {
         sampling::sessions,
         sampling_start::sessions,
         sampling_input::sessions,
+        back::sessions,
+        back_counts::sessions,
+        back_list::sessions,
+        back_mixed::sessions,
+        back_among::sessions,
+        back_input::sessions,
     ];
     subjects.iter().flat_map(|sessions| sessions()).collect()
 }

@@ -1,9 +1,11 @@
 //! Pseudo-random sessions that stay consistent most of the time. A machine of
 //! the model goes along, only to steer: it takes part in no expectation.
 
+use crate::back::Earlier;
 use crate::model::{Answer, Machine};
-use crate::session::LIMIT;
+use crate::session::{self, Command, LIMIT};
 
+mod back;
 mod sampling;
 mod stops;
 
@@ -49,6 +51,8 @@ struct Writer {
     rng: Rng,
     bytes: Vec<u8>,
     machine: Machine,
+    /// What the machine can be taken back to.
+    earlier: Earlier,
     /// How often, in a hundred, a bit that traps is set.
     trapping: u64,
 }
@@ -100,24 +104,29 @@ const RANGES: [(u8, u64); 2] = [(0x3D, 94), (0x3E, 94)];
 /// Fields that stop accesses.
 const STOPPING: [u8; 9] = [0x25, 0x26, 0x28, 0x2C, 0x2D, 0x2E, 0x39, 0x3A, 0x3C];
 
-// Single commands.
+// Single commands. The machine obeys each that can change it.
 impl Writer {
+    fn obey(&mut self, command: Command) {
+        session::obey(&mut self.machine, &mut self.earlier, command);
+    }
+
     fn set(&mut self, field: u8, value: u64) {
         self.bytes.push(0x01);
         self.bytes.push(field);
         self.bytes.extend(value.to_le_bytes());
-        self.machine.set(field, value);
+        self.obey(Command::Set { field, value });
     }
 
     fn level(&mut self, level: u8) {
         self.bytes.extend([0x02, level]);
-        self.machine.set_level(level);
+        self.obey(Command::Level(level));
     }
 
     fn access(&mut self, word: u32, operand: u64) {
         self.bytes.push(0x03);
         self.bytes.extend(word.to_le_bytes());
         self.bytes.extend(operand.to_le_bytes());
+        self.obey(Command::Access { word, operand });
     }
 
     fn read(&mut self, offset: u16) {
@@ -129,11 +138,12 @@ impl Writer {
         self.bytes.push(0x05);
         self.bytes.extend(offset.to_le_bytes());
         self.bytes.extend(value.to_le_bytes());
-        self.machine.external_write(offset, value);
+        self.obey(Command::Write { offset, value });
     }
 
     fn tick(&mut self, flag: u8) {
         self.bytes.extend([0x06, flag]);
+        self.obey(Command::Tick { prohibited: flag });
     }
 
     /// Sets a bit; a 0 is written out only now and then while still fresh.
@@ -291,7 +301,7 @@ impl Writer {
 // Commands in the middle of a session.
 impl Writer {
     /// One command, or a few that make a counter run over, or switch it off, or
-    /// that stop an access, or that sample.
+    /// that stop an access, or that sample, or steps and steps back.
     fn step(&mut self) {
         match self.rng.below(100) {
             0..=7 => self.run_over(),
@@ -300,6 +310,8 @@ impl Writer {
             17..=20 => self.sample(),
             21..=22 => self.start_profiling(),
             23..=24 => self.reach_pmsicr(),
+            25..=29 => self.take_back(),
+            30..=33 => self.some_back(),
             _ => self.command(),
         }
     }
@@ -310,18 +322,24 @@ impl Writer {
             self.mend();
             return;
         }
-        match self.rng.below(100) {
+        match self.rng.below(105) {
             0..=15 => self.some_set(),
             16..=27 => self.some_level(),
             28..=72 => self.some_access(),
             73..=80 => self.some_read(),
             81..=87 => self.some_write(),
-            88..=94 => {
-                let flag = self.rng.pick(&[0, 0, 0, 0, 1, 1, 2, 0xFF]);
-                self.tick(flag);
+            88..=94 => self.some_tick(),
+            95..=99 => self.some_member(),
+            _ => {
+                let count = 1 + self.rng.below(3) as usize;
+                self.back(count);
             }
-            _ => self.some_member(),
         }
+    }
+
+    fn some_tick(&mut self) {
+        let flag = self.rng.pick(&[0, 0, 0, 0, 1, 1, 2, 0xFF]);
+        self.tick(flag);
     }
 
     /// A set command, sometimes one that is refused or makes a bad record.
@@ -859,7 +877,7 @@ impl Writer {
                 self.noise(count);
             }
             78..=83 => {
-                let first = self.rng.pick(&[0x07, 0x09, 0x10, 0x80, 0xFF]);
+                let first = self.rng.pick(&[0x09, 0x0A, 0x10, 0x87, 0xFF]);
                 self.bytes.push(first);
                 self.noise(5);
             }
@@ -906,7 +924,13 @@ impl Writer {
 pub fn session(seed: u64, index: u64) -> Vec<u8> {
     let mut rng = Rng::new(seed, index);
     let trapping = rng.pick(&[3, 10, 10, 25]);
-    let mut writer = Writer { rng, bytes: Vec::new(), machine: Machine::default(), trapping };
+    let mut writer = Writer {
+        rng,
+        bytes: Vec::new(),
+        machine: Machine::default(),
+        earlier: Earlier::default(),
+        trapping,
+    };
     if writer.rng.chance(3) {
         let count = writer.rng.below(30) as usize;
         writer.noise(count);
@@ -922,9 +946,13 @@ pub fn session(seed: u64, index: u64) -> Vec<u8> {
     if writer.rng.chance(12) {
         writer.spoil();
     }
-    let count = writer.rng.pick(&[3, 10, 30, 50, 80, 95]);
-    for _ in 0..count {
-        writer.step();
+    if writer.rng.chance(20) {
+        writer.without_sets();
+    } else {
+        let count = writer.rng.pick(&[3, 10, 30, 50, 80, 95]);
+        for _ in 0..count {
+            writer.step();
+        }
     }
     if writer.rng.chance(65) {
         writer.dump();

@@ -3,6 +3,7 @@
 //! without sight of the Rattle code or its definitions: a library, so that a comparison can
 //! run it beside another program, and the program `reference` over it.
 
+pub mod back;
 pub mod directed;
 pub mod generate;
 pub mod model;

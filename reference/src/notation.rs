@@ -99,6 +99,7 @@ pub fn code(command: Command) -> String {
             format!("05 {} v:{value}", hexadecimal(&offset.to_le_bytes()))
         }
         Command::Tick { prohibited } => format!("06 {prohibited:02X}"),
+        Command::Back => "07".to_string(),
         Command::Member { draw } => format!("08 {draw:02X}"),
     }
 }
@@ -115,6 +116,7 @@ fn comment(command: Command) -> String {
         Command::Tick { prohibited: 0 } => "tick".to_string(),
         Command::Tick { prohibited: 1 } => "tick, prohibited".to_string(),
         Command::Tick { .. } => "tick, no such flag".to_string(),
+        Command::Back => "step back".to_string(),
         Command::Member { draw } => format!("member, draw {draw}"),
     }
 }

@@ -1,6 +1,7 @@
-//! MODEL S1 to S6 and L1 to L3: sessions, a row of bytes in, lines out. A session
-//! always starts from the fresh machine.
+//! MODEL S1 to S6, L1 to L3 and H: sessions, a row of bytes in, lines out. A
+//! session always starts from the fresh machine and with no step to take back.
 
+use crate::back::Earlier;
 use crate::model::{Answer, Machine};
 
 /// A session of more bytes is not run.
@@ -17,6 +18,7 @@ pub enum Command {
     Read { offset: u16 },
     Write { offset: u16, value: u64 },
     Tick { prohibited: u8 },
+    Back,
     Member { draw: u8 },
 }
 
@@ -41,6 +43,7 @@ fn length(first: u8) -> Option<usize> {
         0x04 => Some(1 + 2),
         0x05 => Some(1 + 2 + 8),
         0x06 => Some(1 + 1),
+        0x07 => Some(1),
         0x08 => Some(1 + 1),
         _ => None,
     }
@@ -73,15 +76,16 @@ pub fn parse(bytes: &[u8]) -> Parsed {
         0x04 => Command::Read { offset: little(b) as u16 },
         0x05 => Command::Write { offset: little(&b[..2]) as u16, value: little(&b[2..]) },
         0x06 => Command::Tick { prohibited: b[0] },
+        0x07 => Command::Back,
         _ => Command::Member { draw: b[0] },
     };
     Parsed::Command(command, length)
 }
 
-/// Obeys a command that is not the end.
-pub fn obey(machine: &mut Machine, command: Command) -> Answer {
+/// Obeys a command that is neither the end nor a step back.
+fn go_on(machine: &mut Machine, command: Command) -> Answer {
     match command {
-        Command::End => Answer::Ok,
+        Command::End | Command::Back => Answer::Ok,
         Command::Set { field, value } => machine.set(field, value),
         Command::Level(level) => machine.set_level(level),
         Command::Access { word, operand } => machine.access(word, operand),
@@ -90,6 +94,41 @@ pub fn obey(machine: &mut Machine, command: Command) -> Answer {
         Command::Tick { prohibited } => machine.tick(prohibited),
         Command::Member { draw } => machine.member(draw),
     }
+}
+
+/// MODEL H: takes the latest listed step back, whatever the record is like. The
+/// step is gone then, and this is none that could be taken back itself.
+fn go_back(machine: &mut Machine, earlier: &mut Earlier) -> Answer {
+    match earlier.take() {
+        Some(before) => {
+            *machine = before;
+            Answer::Ok
+        }
+        None => Answer::Refused(18),
+    }
+}
+
+/// Obeys a command that is not the end, and keeps the list of what can be taken
+/// back. Whatever is refused leaves the list alone, and so do external reads.
+pub fn obey(machine: &mut Machine, earlier: &mut Earlier, command: Command) -> Answer {
+    if command == Command::Back {
+        return go_back(machine, earlier);
+    }
+    let before = machine.clone();
+    let answer = go_on(machine, command);
+    if let Answer::Refused(_) = answer {
+        return answer;
+    }
+    match command {
+        Command::Set { .. } => earlier.clear(),
+        Command::Level(_)
+        | Command::Access { .. }
+        | Command::Write { .. }
+        | Command::Tick { .. }
+        | Command::Member { .. } => earlier.list(before),
+        Command::End | Command::Read { .. } | Command::Back => {}
+    }
+    answer
 }
 
 /// The words of an answer, as they stand behind the position.
@@ -115,6 +154,7 @@ pub fn run(bytes: &[u8]) -> String {
         return "0 refused 6\n".to_string();
     }
     let mut machine = Machine::default();
+    let mut earlier = Earlier::default();
     let mut output = String::new();
     let mut at = 0;
     for position in 1.. {
@@ -124,7 +164,7 @@ pub fn run(bytes: &[u8]) -> String {
             Parsed::Command(Command::End, _) => ("end".to_string(), true),
             Parsed::Command(command, length) => {
                 at += length;
-                (words(obey(&mut machine, command)), false)
+                (words(obey(&mut machine, &mut earlier, command)), false)
             }
         };
         output.push_str(&format!("{position} {text}\n"));

@@ -3,13 +3,16 @@
 //! the orders of traps written a second time as the tables that they are (MODEL
 //! T1 to T6 and I1 to I6) with the causes of traps, the overflow flags against
 //! sums of 128 bits, and the counters that are off. Causes have a file of their
-//! own, and so have accesses to PMSICR and the members of the sample population
-//! (MODEL J5 to J9).
+//! own, and so have accesses to PMSICR, the members of the sample population
+//! (MODEL J5 to J9), and steps back (MODEL H).
 
+mod back;
+mod back_sessions;
 mod causes;
 mod pmsicr;
 mod sampling;
 
+use crate::back::Earlier;
 use crate::generate::{self, Rng};
 use crate::model::{Answer, Machine, Move, Register};
 use crate::notation::{assemble, disassemble};

@@ -6,6 +6,8 @@ use mathlib.Core.Path.{refl}
 use borrow.Fn.World.{World}
 use Rattle.rules.specs.Word.{decode}
 use Rattle.rules.specs.Step.{stepDecoded}
+use Rattle.undo.specs.declared.Change.{Change}
+use Rattle.undo.specs.Undo.{changeBy, changeDecoded}
 use Rattle.access.specs.Calls.{Obeyed, Reference, to, MayGive, CallsRun, CallsNoninterference}
 use Rattle.access.specs.Lent.{Lent, Stayed, sayingSo}
 use Rattle.access.proofs.Calls.{asked, said, stated, any, Exact, exact-calls-run, exact-noninterference}
@@ -18,6 +20,7 @@ abbrev pub Call : World → MayGive
 Call m w x r answer after =
     (p : Reference)
     × (q : Reference)
+    × (k : Change)
     × Stayed r after
     × Obeyed
     m
@@ -26,20 +29,23 @@ Call m w x r answer after =
     (p .lifetime, (q .lifetime, tt))
     (to p (r .counters), (to q (r .events), (r .settings, (r .level, (r .values, (decode w, (x, tt)))))))
     (after .counters, (tt, (tt, (tt, (tt, (tt, (tt, tt)))))))
-    (sayingSo answer after)
+    (sayingSo answer after k)
 
 call-exact : (m : World) → Exact (Call m)
 call-exact m =
     record {
       only = λ w x r answer after c.
-          only-step w x r answer after (c .2)
-          (∥∥₁-map (said m (Lent (stepDecoded (decode w) x r) _ (after .counters)) (c .3 tt (asked m)))
+          only-step w x r answer after (c .3) (c .2)
+          (∥∥₁-map
+          (said m (Lent (stepDecoded (decode w) x r) (changeDecoded (decode w) x r) _ (after .counters)) (c .4 tt (asked m)))
           (lent-by-word (decode w) w x r refl _ _));
       may = λ w x r. (
         any,
         any,
+        changeBy w x r,
         step-stayed w x r,
-        λ g s. stated m (Lent (stepDecoded (decode w) x r) _ _) (lent-decoded (decode w) w x r refl _ _ (step-lent w x r)) s,
+        λ g s. stated m (Lent (stepDecoded (decode w) x r) (changeDecoded (decode w) x r) _ _)
+            (lent-decoded (decode w) w x r refl _ _ (step-lent w x r)) s,
       );
     }
 

@@ -8,6 +8,8 @@ use borrow.Fn.World.{World}
 use Rattle.answer.specs.declared.Answer.{Answer}
 use Rattle.machine.specs.declared.Machine.{Machine}
 use Rattle.rules.specs.Step.{step}
+use Rattle.undo.specs.declared.Change.{Change}
+use Rattle.undo.specs.Undo.{changeBy}
 use Rattle.access.specs.Calls.{Obeyed, Reference, to, MayGive, CallsRun, CallsNoninterference}
 use Rattle.access.specs.Lent.{Lent, Stayed, sayingSo}
 use Rattle.access.proofs.Calls.{asked, said, stated, any, OfStep, Exact, exact-calls-run, exact-noninterference}
@@ -16,23 +18,27 @@ use Rattle.access.proofs.lent as lent′
 
 module _ (w x : ℕ) (r : Machine) where
   pub only-step :
-      (answer : Answer) (after : Machine) → Stayed r after → ∥ Lent (step w x r) (sayingSo answer after) (after .counters) ∥₁
+      (answer : Answer) (after : Machine) → Stayed r after → (k : Change)
+      → ∥ Lent (step w x r) (changeBy w x r) (sayingSo answer after k) (after .counters) ∥₁
       → ∥ OfStep w x r answer after ∥₁
-  only-step answer after stayed s =
-      ∥∥₁-map s (λ l. let o = whole w x r _ _ l in (ap (λ o. o .answer) o, stayed ∙ ap (λ o. o .machine) o))
+  only-step answer after stayed k s =
+      ∥∥₁-map s (λ l. let o = whole w x r _ _ _ l in (ap (λ o. o .answer) o, stayed ∙ ap (λ o. o .machine) o))
 
-  pub step-lent : Lent (step w x r) (sayingSo (step w x r .answer) (step w x r .machine)) (step w x r .machine .counters)
-  step-lent = record { answer = refl; values = refl; counters = refl }
+  pub step-lent :
+      Lent (step w x r) (changeBy w x r) (sayingSo (step w x r .answer) (step w x r .machine) (changeBy w x r))
+      (step w x r .machine .counters)
+  step-lent = record { answer = refl; values = refl; counters = refl; change = refl }
 
   pub step-stayed : Stayed r (step w x r .machine)
-  step-stayed = sym (ap (λ o. o .machine) (whole w x r _ _ step-lent))
+  step-stayed = sym (ap (λ o. o .machine) (whole w x r _ _ _ step-lent))
 
 -- a call of `access::lent` with the parts of a record, its counters and its event numbers by any two references: an answer,
--- values, and counters behind the reference at its return, of which the contract holds, as the source states it
+-- values, something kept, and counters behind the reference at its return, of which the contract holds, as the source states it
 abbrev pub Call : World → MayGive
 Call m w x r answer after =
     (p : Reference)
     × (q : Reference)
+    × (k : Change)
     × Stayed r after
     × Obeyed
     m
@@ -41,14 +47,21 @@ Call m w x r answer after =
     (p .lifetime, (q .lifetime, tt))
     (to p (r .counters), (to q (r .events), (r .settings, (r .level, (r .values, (w, (x, tt)))))))
     (after .counters, (tt, (tt, (tt, (tt, (tt, (tt, tt)))))))
-    (sayingSo answer after)
+    (sayingSo answer after k)
 
 call-exact : (m : World) → Exact (Call m)
 call-exact m =
     record {
       only = λ w x r answer after c.
-          only-step w x r answer after (c .2) (said m (Lent (step w x r) _ (after .counters)) (c .3 tt (asked m)));
-      may = λ w x r. (any, any, step-stayed w x r, λ g s. stated m (Lent (step w x r) _ _) (step-lent w x r) s);
+          only-step w x r answer after (c .3) (c .2)
+          (said m (Lent (step w x r) (changeBy w x r) _ (after .counters)) (c .4 tt (asked m)));
+      may = λ w x r. (
+        any,
+        any,
+        changeBy w x r,
+        step-stayed w x r,
+        λ g s. stated m (Lent (step w x r) (changeBy w x r) _ _) (step-lent w x r) s,
+      );
     }
 
 -- the calls of `access::lent` answer and leave what `run` says

@@ -8,13 +8,14 @@ use Rattle.machine.specs.Outcome.{says}
 use Rattle.state.specs.State.{viewOf}
 use Rattle.rules.specs.Step.{decide, step}
 use Rattle.rules.proofs.Applied.{rest-stays}
+use Rattle.undo.specs.declared.Change.{Change}
 use Rattle.access.specs.declared.Said.{Said}
 use Rattle.access.specs.Lent.{Lent}
 
 pub whole :
-    (w x : ℕ) (r : Machine) (said : Said) (after : List ℕ) → Lent (step w x r) said after
+    (w x : ℕ) (r : Machine) (k : Change) (said : Said) (after : List ℕ) → Lent (step w x r) k said after
     → says (said .answer) (machineOf (r .level) (r .settings) (r .events) after (said .values)) ≡ step w x r
 unfolding step
-whole w x r said after l =
+whole w x r k said after l =
     (λ i. says (l .answer i) (machineOf (r .level) (r .settings) (r .events) (l .counters i) (l .values i)))
     ∙ ap (says (step w x r .answer)) (sym (rest-stays (decide (viewOf r) w x) r))

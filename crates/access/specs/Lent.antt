@@ -11,14 +11,17 @@ use Rattle.machine.specs.Machine.{machineOf, withCounters, withValues}
 use Rattle.rules.specs.declared.Decision.{Decision}
 use Rattle.rules.specs.declared.Place.{Place}
 use Rattle.rules.specs.Apply.{valueAt, withValue, takenBy, shownBy, apply}
+use Rattle.undo.specs.declared.Change.{Change}
+use Rattle.undo.specs.Undo.{changeOf}
 use Rattle.access.specs.declared.Said.{Said}
 
--- MODEL X4: what is said and what the counters then hold is the outcome; level, settings and event numbers stay with the
--- caller
-pub record Lent (o : Outcome) (said : Said) (after : List ℕ) : Type 0 where
+-- MODEL X4 and H8: what is said and what the counters then hold is the outcome, and what is kept of the access goes with it;
+-- level, settings and event numbers stay with the caller
+pub record Lent (o : Outcome) (kept : Change) (said : Said) (after : List ℕ) : Type 0 where
   pub answer : said .answer ≡ o .answer
   pub values : said .values ≡ o .machine .values
   pub counters : after ≡ o .machine .counters
+  pub change : said .change ≡ kept
 
 -- MODEL X4: what MRS answers of a place, where the record has these settings, counters and values, whatever the rest of it
 abbrev pub Shown : Place → Settings → List ℕ → Values → ℕ → Type 0
@@ -33,12 +36,12 @@ Put p x s c v c′ v′ =
 
 -- MODEL X4: a decision applied to the record with these settings, event numbers, counters and values, whatever its level
 abbrev pub Applied : Decision → Settings → List ℕ → List ℕ → Values → Said → List ℕ → Type 0
-Applied d s e c v said after = (l : ℕ) → Lent (apply d (machineOf l s e c v)) said after
+Applied d s e c v said after = (l : ℕ) → Lent (apply d (machineOf l s e c v)) (changeOf d (machineOf l s e c v)) said after
 
 -- MODEL X4: the record after a call has the counters that it left, and its values; the rest of it stayed with the caller
 abbrev pub Stayed : Machine → Machine → Type 0
 Stayed r after = after ≡ withCounters (after .counters) (withValues (after .values) r)
 
--- MODEL X4: what is said where this is the answer, and this the record after the call
-abbrev pub sayingSo : Answer → Machine → Said
-sayingSo answer after = record { answer = answer; values = after .values }
+-- MODEL X4: what is said where this is the answer, this the record after the call, and this kept of the access
+abbrev pub sayingSo : Answer → Machine → Change → Said
+sayingSo answer after kept = record { answer = answer; values = after .values; change = kept }

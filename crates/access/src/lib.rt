@@ -4,6 +4,7 @@ ghost use mathlib.Core.Path.{_≡_};
 ghost use Rattle.access.specs.Lent.{Lent, Shown, Put, Applied};
 ghost use Rattle.machine.specs.Machine.{machineOf};
 ghost use Rattle.rules.specs.Step.{step, stepDecoded};
+ghost use Rattle.undo.specs.Undo.{changeBy, changeDecoded};
 use answer::Answer;
 use machine::Machine;
 use machine::Outcome;
@@ -12,11 +13,13 @@ use machine::Values;
 use rules::Decision;
 use rules::Instruction;
 use rules::Place;
+use undo::Change;
 
-// What an access answers, and what the record holds after it beside the event counters.
+// What an access answers, what the record holds after it beside the event counters, and what is kept of it to take it back.
 pub struct Said {
     pub answer: Answer,
     pub values: Values,
+    pub change: Change,
 }
 
 // What MRS answers of a place.
@@ -53,6 +56,7 @@ fn apply(d: Decision, counters: &mut [u64], events: &[u16], s: Settings, v: Valu
         Decision::Says(a) => Said {
             answer: a,
             values: v,
+            change: undo::UNCHANGED,
         },
         Decision::Read { place, rt } => Said {
             answer: Answer::Mrs {
@@ -60,17 +64,23 @@ fn apply(d: Decision, counters: &mut [u64], events: &[u16], s: Settings, v: Valu
                 rt: rt,
             },
             values: v,
+            change: undo::UNCHANGED,
         },
-        Decision::Write { place, value } => Said {
-            answer: Answer::Ok,
-            values: put(counters, s, v, place, value),
-        },
+        Decision::Write { place, value } => {
+            let change = undo::held(counters, v, place);
+            Said {
+                answer: Answer::Ok,
+                values: put(counters, s, v, place, value),
+                change: change,
+            }
+        }
         Decision::Add { mask } => {
             let mut values = v;
             values.ovs = counters::increment(counters, events, s, mask, v.ovs);
             Said {
                 answer: Answer::Ok,
                 values: values,
+                change: undo::incremented(mask),
             }
         }
     }
@@ -88,6 +98,7 @@ pub fn lent_decoded(
 ) -> Said
     ensures { λ said. ⌜ Lent
         (stepDecoded i x (machineOf level s (now (events .entry)) (now (counters .entry)) v))
+        (changeDecoded i x (machineOf level s (now (events .entry)) (now (counters .entry)) v))
         said
         (now (counters .exit)) ⌝ }
 {
@@ -107,6 +118,7 @@ pub fn lent(
 ) -> Said
     ensures { λ said. ⌜ Lent
         (step w x (machineOf level s (now (events .entry)) (now (counters .entry)) v))
+        (changeBy w x (machineOf level s (now (events .entry)) (now (counters .entry)) v))
         said
         (now (counters .exit)) ⌝ }
 {

@@ -1,2 +1,3 @@
 -- The definitions of the crate `answer`.
 pub mod Numbers
+pub mod Refused

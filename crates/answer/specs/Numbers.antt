@@ -21,6 +21,7 @@ use Rattle.answer.specs.declared.Refusal.the-variants.{
   CounterTooWide,
   TgeAtEl1,
   FeatureMissing,
+  NothingToUndo,
 }
 
 -- MODEL R0: a refusal's number. Below, each with the clause of its number
@@ -53,6 +54,8 @@ refusalNumber CounterTooWide = 15
 refusalNumber TgeAtEl1 = 16
 -- MODEL R17: a feature without the one that it builds on
 refusalNumber FeatureMissing = 17
+-- MODEL R18: nothing is listed that could be taken back
+refusalNumber NothingToUndo = 18
 
 -- MODEL L4: the level that takes a trap, as a number
 abbrev pub levelNumber : Level → ℕ

@@ -2,6 +2,7 @@
 // session's lines.
 ghost use mathlib.Core.Path.{_≡_};
 ghost use Rattle.answer.specs.Numbers.{refusalNumber, levelNumber, causeNumber};
+ghost use Rattle.answer.specs.Refused.{isRefused};
 
 // Why an input or a record is refused (MODEL R). specs/Numbers.antt has the number of each.
 pub enum Refusal {
@@ -19,6 +20,7 @@ pub enum Refusal {
     CounterTooWide,
     TgeAtEl1,
     FeatureMissing,
+    NothingToUndo,
 }
 
 // The exception level that takes a trap.
@@ -84,6 +86,7 @@ pub fn refusal_number(r: Refusal) -> u8
         Refusal::CounterTooWide => 15,
         Refusal::TgeAtEl1 => 16,
         Refusal::FeatureMissing => 17,
+        Refusal::NothingToUndo => 18,
     }
 }
 
@@ -112,5 +115,23 @@ pub fn cause_number(c: Cause) -> u8
         Cause::FgtEn2 => 7,
         Cause::Tpms => 8,
         Cause::Nspb => 9,
+    }
+}
+
+// The command was refused.
+pub fn is_refused(a: Answer) -> bool
+    ensures { λ b. ⌜ b ≡ isRefused a ⌝ }
+{
+    match a {
+        Answer::Ok => false,
+        Answer::Sampled => false,
+        Answer::End => false,
+        Answer::Undef => false,
+        Answer::Other => false,
+        Answer::Error => false,
+        Answer::Trap(_) => false,
+        Answer::Value(_) => false,
+        Answer::Mrs { value: _, rt: _ } => false,
+        Answer::Refused(_) => true,
     }
 }

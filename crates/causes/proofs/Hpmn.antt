@@ -17,7 +17,7 @@ use Rattle.rules.specs.declared.Register.the-variants.{Pmevcntr}
 use Rattle.rules.specs.Step.{undefinedAtOnce}
 use Rattle.rules.specs.Traps.{upTo, el2Enabled, inaccessible, disabledTarget, stopAtEl3}
 use Rattle.rules.specs.Traps.{counterRules, pmevcntrDisabled, pmevcntrBit, rulesOf}
-use Rattle.state.proofs.Consistent.{numbersLarge, passed}
+use Rattle.state.proofs.Consistent.{n-fits, passed}
 use Rattle.state.specs.declared.Verdict.the-variants.{Consistent}
 use Rattle.state.specs.declared.View.{View}
 use Rattle.state.specs.State.{viewOf, tooLarge, refusals, verdictOf}
@@ -49,26 +49,13 @@ module _ (r : Machine) (m h : ℕ) (read : Bool)
   within : h ≤ n
   within = leb-true h n (and-right (ltb m h) (leb h n) allowed)
 
-  -- N is at most 31
-  n-fits : n ≤ 31
-  unfolding refusals tooLarge largest
-  n-fits =
-      ltb-false 31 n
-      (or-left (exceeds n 0x0C) (exceeds (v .settings .mdcr2 .hpmn) 0x27)
-      (or-left _ (exceeds (v .settings .pmuacr .p) 0x32)
-      (or-left _ (exceeds (v .settings .cnten) 0x34)
-      (or-left _ (exceeds (v .settings .mdcr3 .nspb) 0x88)
-      (or-left _ (exceeds (v .settings .sampling .reload) 0x8B)
-      (or-left (numbersLarge v) (v .ovslarge)
-      (or-left (numbersLarge v || v .ovslarge) (ltb largestLevel (v .level)) (passed v consistent 0))))))))
-
   -- so the set command is not refused
   abbrev u : Machine
   u = store 0x27 h r
 
   fits : exceeds h 0x27 ≡ false
   unfolding largest
-  fits = le-ltb 31 h (omega (arith, within, n-fits))
+  fits = le-ltb 31 h (omega (arith, within, n-fits v consistent))
 
   is-set : setAll (opening (r .settings) h Hpmn (Pmevcntr m) read) r ≡ u
   unfolding set setAll largest

@@ -1,5 +1,4 @@
 -- The laws of the crate `command`.
-pub mod Choice
 pub mod Front
 pub mod Operands
 pub mod Sizes

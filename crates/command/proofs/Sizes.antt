@@ -1,4 +1,4 @@
--- How many bytes commands take: a command that is not the last takes two or more, and they are all there.
+-- How many bytes commands take: a command that is not the last takes two or more, but for the step back, and they are all there.
 use Prim.Native.Nat.{ℕ, suc, _+_, _<_, _≤_}
 use mathlib.Core.Bool.{Bool, true, false, cond, true≢false}
 use mathlib.Core.List.{List, [], _∷_}
@@ -9,8 +9,8 @@ use lib.Dec.{leb, ltb}
 use lib.ListN.{length, getD}
 use Rattle.answer.specs.declared.Refusal.the-variants.{UnknownCommand, Truncated}
 use Rattle.command.specs.declared.Command.{Command}
-use Rattle.command.proofs.Choice.{either}
-use Rattle.command.specs.Command.{operandBytes, isUnknown, commandWith, commandOf, sizeAt, isLast}
+use Rattle.answer.proofs.Choice.{either}
+use Rattle.command.specs.Command.{operandBytes, isUnknown, commandWith, commandOf, sizeAt, isLast, isBack}
 
 pub size-none : (s : List ℕ) → length s ≡ 0 → sizeAt s ≡ 0
 size-none [] h = refl
@@ -21,11 +21,11 @@ size-some [] h = let z : ⊥ = omega arith in absurd z
 size-some (c ∷ s) h = refl
 
 pub few-operands : (c : ℕ) → operandBytes c ≤ 12
-few-operands c = search (either (λ n. n ≤ 12), leb-true) depth 9
+few-operands c = search (either (λ n. n ≤ 12), leb-true) depth 10
 
--- a command with n bytes of operands: if it is not the last, it has some
+-- a command with n bytes of operands: if it is neither the last nor a step back, it has some
 HasOperands : Command → ℕ → Type 0
-HasOperands c n = isLast c ≡ false → 1 ≤ n
+HasOperands c n = isLast c ≡ false → isBack c ≡ false → 1 ≤ n
 
 -- the tables of commands and of their sizes go by the same tests
 either-operands :
@@ -35,25 +35,44 @@ either-operands false x y n m p q = q
 
 operands : (c : Command) (n : ℕ) → leb 1 n ≡ true → HasOperands c n
 unfolding HasOperands
-operands c n h e = leb-true 1 n h
+operands c n h e k = leb-true 1 n h
 
 end-operands : HasOperands Command.End 0
 unfolding HasOperands
-end-operands e = absurd (true≢false e)
+end-operands e k = absurd (true≢false e)
+
+back-operands : HasOperands Command.Back 0
+unfolding HasOperands
+back-operands e k = absurd (true≢false k)
 
 with-operands : (c : ℕ) (s : List ℕ) → HasOperands (commandWith c s) (operandBytes c)
-with-operands c s = search (either-operands, operands, end-operands) depth 9
+with-operands c s = search (either-operands, operands, end-operands, back-operands) depth 10
 
 -- past a command that is not the last
-pub size-bounds : (s : List ℕ) → isLast (commandOf s) ≡ false → (2 ≤ sizeAt s) × (sizeAt s ≤ length s)
-unfolding commandOf HasOperands
+pub size-bounds : (s : List ℕ) → isLast (commandOf s) ≡ false → (1 ≤ sizeAt s) × (sizeAt s ≤ length s)
+unfolding commandOf
 size-bounds [] e = absurd (true≢false e)
 size-bounds (c ∷ s) e = go (isUnknown c) (ltb (length s) (operandBytes c)) refl e
   where
     go :
         (a b : Bool) → ltb (length s) (operandBytes c) ≡ b
         → isLast (cond a (Command.Bad UnknownCommand) (cond b (Command.Bad Truncated) (commandWith c s))) ≡ false
-        → (2 ≤ 1 + operandBytes c) × (1 + operandBytes c ≤ suc (length s))
+        → (1 ≤ 1 + operandBytes c) × (1 + operandBytes c ≤ suc (length s))
     go true b q e = absurd (true≢false e)
     go false true q e = absurd (true≢false e)
-    go false false q e = (omega (arith, with-operands c s e), omega (arith, ltb-false (length s) (operandBytes c) q))
+    go false false q e = (omega arith, omega (arith, ltb-false (length s) (operandBytes c) q))
+
+-- and no step back
+pub two-or-more : (s : List ℕ) → isLast (commandOf s) ≡ false → isBack (commandOf s) ≡ false → 2 ≤ sizeAt s
+unfolding commandOf HasOperands
+two-or-more [] e k = absurd (true≢false e)
+two-or-more (c ∷ s) e k = go (isUnknown c) (ltb (length s) (operandBytes c)) e k
+  where
+    go :
+        (a b : Bool)
+        → isLast (cond a (Command.Bad UnknownCommand) (cond b (Command.Bad Truncated) (commandWith c s))) ≡ false
+        → isBack (cond a (Command.Bad UnknownCommand) (cond b (Command.Bad Truncated) (commandWith c s))) ≡ false
+        → 2 ≤ 1 + operandBytes c
+    go true b e k = absurd (true≢false e)
+    go false true e k = absurd (true≢false e)
+    go false false e k = omega (arith, with-operands c s e k)

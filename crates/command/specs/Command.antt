@@ -1,6 +1,6 @@
 -- Commands out of a session's bytes: which there are, how many bytes each takes, and which is the last.
 use Prim.Native.Nat.{ℕ, _+_, _*_}
-use mathlib.Core.Bool.{Bool, true, false, cond, _||_}
+use mathlib.Core.Bool.{Bool, true, false, cond}
 use mathlib.Core.List.{List, [], _∷_}
 use lib.Dec.{ltb, eqb}
 use lib.ListN.{length, take, drop}
@@ -25,11 +25,12 @@ operandBytes c =
     (cond (eqb c 0x04) 2
     (cond (eqb c 0x05) 10
     (cond (eqb c 0x06) 1
-    (cond (eqb c 0x08) 1 0))))))
+    (cond (eqb c 0x07) 0
+    (cond (eqb c 0x08) 1 0)))))))
 
 -- MODEL R1: no command has this byte
 abbrev pub isUnknown : ℕ → Bool
-isUnknown c = eqb c 0x07 || ltb 0x08 c
+isUnknown c = ltb 0x08 c
 
 -- MODEL S1: the command with byte c and the operands that follow it
 abbrev pub commandWith : ℕ → List ℕ → Command
@@ -40,7 +41,8 @@ commandWith c s =
     (cond (eqb c 0x04) (Command.Read (operand s 0 2))
     (cond (eqb c 0x05) (Command.Write (operand s 0 2) (operand s 2 8))
     (cond (eqb c 0x06) (Command.Tick (operand s 0 1))
-    (cond (eqb c 0x08) (Command.Member (operand s 0 1)) Command.End))))))
+    (cond (eqb c 0x07) Command.Back
+    (cond (eqb c 0x08) (Command.Member (operand s 0 1)) Command.End)))))))
 
 -- MODEL R1, R2 and V1: the command that the bytes begin with, unless refused with 1, else with 2
 unfoldable pub commandOf : List ℕ → Command
@@ -64,6 +66,7 @@ isLast (Command.Access w x) = false
 isLast (Command.Read o) = false
 isLast (Command.Write o x) = false
 isLast (Command.Tick p) = false
+isLast Command.Back = false
 isLast (Command.Member d) = false
 isLast (Command.Bad r) = true
 
@@ -76,5 +79,19 @@ isAccess (Command.Access w x) = true
 isAccess (Command.Read o) = false
 isAccess (Command.Write o x) = false
 isAccess (Command.Tick p) = false
+isAccess Command.Back = false
 isAccess (Command.Member d) = false
 isAccess (Command.Bad r) = false
+
+-- MODEL S1 and H1: the command is a step back
+abbrev pub isBack : Command → Bool
+isBack Command.End = false
+isBack (Command.Set f v) = false
+isBack (Command.Level l) = false
+isBack (Command.Access w x) = false
+isBack (Command.Read o) = false
+isBack (Command.Write o x) = false
+isBack (Command.Tick p) = false
+isBack Command.Back = true
+isBack (Command.Member d) = false
+isBack (Command.Bad r) = false

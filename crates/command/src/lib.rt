@@ -16,6 +16,7 @@ pub enum Command {
     Read { offset: u16 },
     Write { offset: u16, value: u64 },
     Tick { prohibited: u8 },
+    Back,
     Member { draw: u8 },
     Bad(Refusal),
 }
@@ -62,6 +63,7 @@ fn operand_bytes(c: u8) -> usize
         0x04 => 2,
         0x05 => 10,
         0x06 => 1,
+        0x07 => 0,
         0x08 => 1,
         _ => 0,
     }
@@ -90,6 +92,7 @@ fn command_with(c: u8, t: &[u8]) -> Command
             value: eight(t, 3),
         },
         0x06 => Command::Tick { prohibited: t[1] },
+        0x07 => Command::Back,
         0x08 => Command::Member { draw: t[1] },
         _ => Command::End,
     }
@@ -103,7 +106,7 @@ pub fn command_of(t: &[u8]) -> Command
         return Command::Bad(Refusal::Truncated);
     }
     let c = t[0];
-    if (c == 0x07) | (0x08 < c) {
+    if 0x08 < c {
         return Command::Bad(Refusal::UnknownCommand);
     }
     if t.len() - 1 < operand_bytes(c) {

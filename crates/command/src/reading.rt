@@ -31,6 +31,7 @@ pub fn is_last(c: Command) -> bool
             value: _,
         } => false,
         Command::Tick { prohibited: _ } => false,
+        Command::Back => false,
         Command::Member { draw: _ } => false,
         Command::Bad(_) => true,
     }

@@ -1,5 +1,5 @@
-// The event counters, passed by reference: read, store and software increment with its overflow flags. A counter has 64 bits
-// with p5, else 32.
+// The event counters, passed by reference: read, store, software increment with its overflow flags, and that taken back. A
+// counter has 64 bits with p5, else 32.
 ghost use mathlib.Core.Bool.{cond, _&&_};
 ghost use mathlib.Core.Path.{_≡_};
 ghost use Prim.Native.Nat.{_%_, _^_};
@@ -8,6 +8,7 @@ ghost use lib.ListN.{getD, set};
 ghost use Rattle.rules.specs.Ranges.{longBit};
 ghost use Rattle.rules.specs.Overflow.{width, plusOne, carries, overflowWidth, raised};
 ghost use Rattle.rules.specs.Apply.{mapFrom, incremented, overflows};
+ghost use Rattle.counters.specs.Decremented.{minusOne, decremented};
 use machine::Settings;
 
 // Counter m, and 0 past the last.
@@ -117,4 +118,29 @@ pub fn increment(counters: &mut [u64], events: &[u16], s: Settings, mask: u64, o
         i += 1;
     }
     flags
+}
+
+// A counter before PMSWINC, where it holds y after it: one less where it took the increment, wrapping at the counter's width.
+fn decremented(p5: bool, on: bool, y: u64) -> u64
+    ensures { λ r. ⌜ r ≡ cond on (minusOne (width p5) y) y ⌝ }
+{
+    if on {
+        return held(p5, std::num::wrapping_sub_u64(y, 1));
+    }
+    y
+}
+
+// The software increment taken back: 1 less in each counter that took one.
+pub fn decrement(counters: &mut [u64], events: &[u16], p5: bool, mask: u64)
+    ensures { λ r. ⌜ now (counters .exit) ≡ mapFrom (decremented p5 (now (events .entry)) mask) 0 (now (counters .entry)) ⌝ }
+{
+    let mut rest = mask;
+    let mut i: usize = 0;
+    while i < counters.len() {
+        let on = (rest % 2 == 1) & (event(events, i) == 0);
+        let y = counters[i];
+        counters[i] = decremented(p5, on, y);
+        rest = rest / 2;
+        i += 1;
+    }
 }

@@ -1,9 +1,10 @@
 -- A consistent record passes every test; and it is consistent at level 0 too.
-use Prim.Native.Nat.{ℕ}
+use Prim.Native.Nat.{ℕ, _≤_}
 use mathlib.Core.Bool.{Bool, true, false, _||_, or-false}
 use mathlib.Core.Path.{_≡_, refl, _∙_}
+use borrow.Author.Tests.{ltb-false}
 use lib.Dec.{ltb}
-use Rattle.fields.specs.Largest.{exceeds, largestLevel}
+use Rattle.fields.specs.Largest.{largest, exceeds, largestLevel}
 use Rattle.machine.proofs.Bools.{or-left, or-right}
 use Rattle.machine.proofs.First.{testAt, all-fell}
 use Rattle.state.specs.declared.Verdict.{Verdict}
@@ -30,6 +31,19 @@ module _ (v : View) (e : verdictOf v ≡ Consistent) where
   pub passed : (i : ℕ) → testAt i (refusals v) ≡ false
   unfolding verdictOf refusals isConsistent
   passed = all-fell isConsistent Consistent (refusals v) refl (rw e)
+
+  -- N is at most 31
+  pub n-fits : v .settings .features .n ≤ 31
+  unfolding refusals tooLarge largest
+  n-fits =
+      ltb-false 31 (v .settings .features .n)
+      (or-left (exceeds (v .settings .features .n) 0x0C) (exceeds (v .settings .mdcr2 .hpmn) 0x27)
+      (or-left _ (exceeds (v .settings .pmuacr .p) 0x32)
+      (or-left _ (exceeds (v .settings .cnten) 0x34)
+      (or-left _ (exceeds (v .settings .mdcr3 .nspb) 0x88)
+      (or-left _ (exceeds (v .settings .sampling .reload) 0x8B)
+      (or-left (numbersLarge v) (v .ovslarge)
+      (or-left (numbersLarge v || v .ovslarge) (ltb largestLevel (v .level)) (passed 0))))))))
 
   -- refusal 15's row among them
   pub not-wide : v .wide ≡ false

@@ -2,10 +2,8 @@
 pub mod Ran
 pub mod Worked
 pub mod Running
+pub mod Room
 pub mod Turn
 pub mod Whole
 pub mod Fuel
 pub mod Lines
-pub mod Refusal10
-pub mod Bounded
-pub mod Reached

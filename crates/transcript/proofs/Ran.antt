@@ -1,70 +1,44 @@
--- A command run by the code, an access with the counters lent or another command by value, has the outcome of the
--- definition; and what the tag of a command says, where a match takes every variant but some.
+-- A command run by the code, an access with the counters lent or another command by value, does what the definition says.
 use Prim.Native.Nat.{ℕ}
-use mathlib.Core.Bool.{false}
-use mathlib.Core.List.{List, [], _∷_}
-use mathlib.Core.Path.{_≡_, refl, sym, _∙_, ap, ap₂}
-use types.Run.{OneOf, miss}
-use denote.Enum.Declared.{tagOf}
+use mathlib.Core.List.{List}
+use mathlib.Core.Path.{_≡_, sym, _∙_, ap, ap₂}
 use Rattle.access.specs.declared.Said.{Said}
-use Rattle.access.specs.Lent.{Lent}
-use Rattle.access.proofs.Decoded.{whole-by-word}
+use Rattle.access.proofs.Decoded.{by-word, whole-by-word}
 use Rattle.answer.specs.declared.Answer.{Answer}
 use Rattle.command.specs.declared.Command.{Command}
-use Rattle.command.specs.Command.{isAccess}
-use Rattle.command.proofs.Command as C′
+use Rattle.execute.specs.Execute.{listing, obey}
+use Rattle.execute.specs.Words.{keptBy, obeyedBy, Accessed}
 use Rattle.machine.specs.declared.Machine.{Machine}
 use Rattle.machine.specs.declared.Outcome.{Outcome}
 use Rattle.machine.specs.Machine.{machineOf}
 use Rattle.machine.specs.Outcome.{says}
 use Rattle.rules.specs.declared.Instruction.{Instruction}
-use Rattle.rules.specs.Step.{stepDecoded}
 use Rattle.rules.specs.Word.{decode}
-use Rattle.transcript.specs.Session.{execute}
 
--- every variant but 3, the access
-abbrev others : List ℕ
-others = 0 ∷ 1 ∷ 2 ∷ 4 ∷ 5 ∷ 6 ∷ 7 ∷ 8 ∷ []
-
-pub no-access : (c : Command) → OneOf others (tagOf C′.the-type c) → isAccess c ≡ false
-no-access Command.End t = refl
-no-access (Command.Set f v) t = refl
-no-access (Command.Level l) t = refl
-no-access (Command.Access w x) t = absurd (miss others 3 tt t)
-no-access (Command.Read o) t = refl
-no-access (Command.Write o x) t = refl
-no-access (Command.Tick p) t = refl
-no-access (Command.Member d) t = refl
-no-access (Command.Bad r) t = refl
-
--- variant 0 or 3, and no access: the end command
-pub only-end :
-    (c : Command) (r : Machine) → OneOf (0 ∷ 3 ∷ []) (tagOf C′.the-type c) → isAccess c ≡ false
-    → says Answer.End r ≡ execute c r
-unfolding execute
-only-end Command.End r t n = refl
-only-end (Command.Set f v) r t n = absurd (miss (0 ∷ 3 ∷ []) 1 tt t)
-only-end (Command.Level l) r t n = absurd (miss (0 ∷ 3 ∷ []) 2 tt t)
-only-end (Command.Access w x) r t n = cc
-only-end (Command.Read o) r t n = absurd (miss (0 ∷ 3 ∷ []) 4 tt t)
-only-end (Command.Write o x) r t n = absurd (miss (0 ∷ 3 ∷ []) 5 tt t)
-only-end (Command.Tick p) r t n = absurd (miss (0 ∷ 3 ∷ []) 6 tt t)
-only-end (Command.Member d) r t n = absurd (miss (0 ∷ 3 ∷ []) 7 tt t)
-only-end (Command.Bad e) r t n = absurd (miss (0 ∷ 3 ∷ []) 8 tt t)
-
--- the answer and the record after the command c on the record m: of an access, by what was said and the counters that were lent
-module _ (c : Command) (m : Machine) (a : Answer) (next : Machine) where
+-- the answer, the record and the words of the undo list after the command c on the record m, before which the words were `words`
+module _ (c : Command) (m : Machine) (words : List ℕ) (a : Answer) (next : Machine) (words′ : List ℕ) where
+  -- of an access, by what was said and the counters that were lent
   pub access-ran :
-      (w x : ℕ) (i : Instruction) (said : Said) (counters : List ℕ) → c ≡ Command.Access w x → i ≡ decode w
-      → Lent (stepDecoded i x m) said counters
+      (w x : ℕ) (i : Instruction) (said : Said) (counters left : List ℕ) → c ≡ Command.Access w x → i ≡ decode w
+      → Accessed i x m said counters words left
       → a ≡ said .answer
       → next ≡ machineOf (m .level) (m .settings) (m .events) counters (said .values)
-      → says a next ≡ execute c m
-  unfolding execute
-  access-ran w x i said counters p e l q r =
-      ap₂ says q r ∙ whole-by-word i w x m e said counters l ∙ sym (ap (λ d. execute d m) p)
+      → words′ ≡ left
+      → obeyedBy (says a next) words′ ≡ obey c (keptBy m words)
+  unfolding obey
+  access-ran w x i said counters left p e l q r t =
+      let ran = whole-by-word i w x m e said counters (l .lent) in
+      let same = ap (λ o. o .0) (by-word i w x m e) in
+      (λ k. obeyedBy (says (q k) (r k)) (t k))
+      ∙ ap (λ o. obeyedBy o left) (ran ∙ sym same)
+      ∙ l .listed
+      ∙ ap (λ o. listing o (keptBy m words)) same
+      ∙ sym (ap (λ d. obey d (keptBy m words)) p)
 
   -- of another command, by its outcome
   pub other-ran :
-      (d : Command) (o : Outcome) → c ≡ d → o ≡ execute d m → a ≡ o .answer → next ≡ o .machine → says a next ≡ execute c m
-  other-ran d o p e q r = ap₂ says q r ∙ e ∙ sym (ap (λ d. execute d m) p)
+      (d : Command) (o : Outcome) (left : List ℕ) → c ≡ d → obeyedBy o left ≡ obey d (keptBy m words) → a ≡ o .answer
+      → next ≡ o .machine → words′ ≡ left
+      → obeyedBy (says a next) words′ ≡ obey c (keptBy m words)
+  other-ran d o left p e q r t =
+      (λ k. obeyedBy (says (q k) (r k)) (t k)) ∙ e ∙ sym (ap (λ d. obey d (keptBy m words)) p)

@@ -11,25 +11,23 @@ use Rattle.command.specs.declared.Command.{Command}
 use Rattle.command.specs.Command.{commandOf, sizeAt, isLast}
 use Rattle.command.proofs.Sizes.{size-bounds}
 use Rattle.line.specs.Line.{lineOf}
-use Rattle.machine.specs.declared.Machine.{Machine}
-use Rattle.machine.specs.declared.Outcome.{Outcome}
-use Rattle.machine.specs.Machine.{fresh}
+use Rattle.execute.specs.Execute.{Kept, Obeyed, begun, obey}
 use Rattle.text.specs.Written.{Written}
 use Rattle.text.proofs.Sets.{sets-rest}
-use Rattle.transcript.specs.Session.{execute, answersFrom, linesFrom, answersOf, longest, room}
+use Rattle.transcript.specs.Session.{answersFrom, linesFrom, answersOf, longest, room}
 
 -- the lines of the commands from a place on, where the last has a line and the others have one and go on
-module _ (k : ℕ) (t : List ℕ) (m : Machine) (p : ℕ) where
+module _ (k : ℕ) (t : List ℕ) (m : Kept) (p : ℕ) where
   lines-last :
-      isLast (commandOf t) ≡ true → linesFrom p (answersFrom (suc k) t m) ≡ lineOf p (execute (commandOf t) m .answer)
+      isLast (commandOf t) ≡ true → linesFrom p (answersFrom (suc k) t m) ≡ lineOf p (obey (commandOf t) m .answer)
   unfolding linesFrom answersFrom
-  lines-last e = rw e (append-nil (lineOf p (execute (commandOf t) m .answer)))
+  lines-last e = rw e (append-nil (lineOf p (obey (commandOf t) m .answer)))
 
   lines-on :
       isLast (commandOf t) ≡ false
       → linesFrom p (answersFrom (suc k) t m)
-      ≡ lineOf p (execute (commandOf t) m .answer)
-      ++ linesFrom (suc p) (answersFrom k (drop (sizeAt t) t) (execute (commandOf t) m .machine))
+      ≡ lineOf p (obey (commandOf t) m .answer)
+      ++ linesFrom (suc p) (answersFrom k (drop (sizeAt t) t) (obey (commandOf t) m .kept))
   unfolding linesFrom answersFrom
   lines-on e = rw e
 
@@ -37,18 +35,18 @@ module _ (k : ℕ) (t : List ℕ) (m : Machine) (p : ℕ) where
 abbrev pub commandAt : List ℕ → ℕ → Command
 commandAt s at = commandOf (drop at s)
 
-abbrev pub outcomeAt : List ℕ → Machine → ℕ → Outcome
-outcomeAt s m at = execute (commandAt s at) m
+abbrev pub outcomeAt : List ℕ → Kept → ℕ → Obeyed
+outcomeAt s m at = obey (commandAt s at) m
 
-abbrev pub lineAt : List ℕ → Machine → ℕ → ℕ → List ℕ
+abbrev pub lineAt : List ℕ → Kept → ℕ → ℕ → List ℕ
 lineAt s m at p = lineOf p (outcomeAt s m at .answer)
 
 -- the lines that remain
-pub remaining : List ℕ → Machine → ℕ → ℕ → List ℕ
+pub remaining : List ℕ → Kept → ℕ → ℕ → List ℕ
 remaining s m at p = linesFrom p (answersFrom (length s + 2 - p) (drop at s) m)
 
 -- what the loop keeps
-pub record Running (s out₀ out : List ℕ) (m : Machine) (at end p : ℕ) : Type 0 where
+pub record Running (s out₀ out : List ℕ) (m : Kept) (at end p : ℕ) : Type 0 where
   -- the session is not too long, and the place is one of its places
   pub limit : length s ≤ longest
   pub within : at ≤ length s
@@ -62,14 +60,14 @@ pub record Running (s out₀ out : List ℕ) (m : Machine) (at end p : ℕ) : Ty
   pub remains : sets out₀ 0 (linesFrom 1 (answersOf s)) ≡ sets out end (remaining s m at p)
   pub remains-length : end + length (remaining s m at p) ≡ length (linesFrom 1 (answersOf s))
 
-start-remaining : (s : List ℕ) (m : Machine) → m ≡ fresh → remaining s m 0 1 ≡ linesFrom 1 (answersOf s)
+start-remaining : (s : List ℕ) (m : Kept) → m ≡ begun → remaining s m 0 1 ≡ linesFrom 1 (answersOf s)
 unfolding remaining answersOf
 start-remaining s m e =
     let n : length s + 2 - 1 ≡ suc (length s) = omega arith in
     λ i. linesFrom 1 (answersFrom (n i) s (e i))
 
 pub running-start :
-    {s out : List ℕ} {m : Machine} → m ≡ fresh → length s ≤ longest → room ≤ length out → Running s out out m 0 0 1
+    {s out : List ℕ} {m : Kept} → m ≡ begun → length s ≤ longest → room ≤ length out → Running s out out m 0 0 1
 running-start {s} {out} {m} e h k =
     record {
       limit = h;
@@ -82,7 +80,7 @@ running-start {s} {out} {m} e h k =
       remains-length = omega (arith, ap length (start-remaining s m e));
     }
 
-module _ {s out₀ out : List ℕ} {m : Machine} {at end p : ℕ} (r : Running s out₀ out m at end p) where
+module _ {s out₀ out : List ℕ} {m : Kept} {at end p : ℕ} (r : Running s out₀ out m at end p) where
   -- the fuel of the definition is not used up
   fuel : length s + 2 - p ≡ suc (length s + 2 - (p + 1))
   fuel = omega (arith, r .within, r .first, r .counted)
@@ -105,7 +103,7 @@ module _ {s out₀ out : List ℕ} {m : Machine} {at end p : ℕ} (r : Running s
 
   -- what remains behind this command
   next-remaining : List ℕ
-  next-remaining = remaining s (outcomeAt s m at .machine) (at + sizeAt (drop at s)) (p + 1)
+  next-remaining = remaining s (outcomeAt s m at .kept) (at + sizeAt (drop at s)) (p + 1)
 
   on-remaining : isLast (commandAt s at) ≡ false → remaining s m at p ≡ lineAt s m at p ++ next-remaining
   unfolding remaining next-remaining
@@ -115,14 +113,14 @@ module _ {s out₀ out : List ℕ} {m : Machine} {at end p : ℕ} (r : Running s
       ∙ (λ i.
       lineAt s m at p
       ++ linesFrom (sym (add-one p) i)
-      (answersFrom (length s + 2 - (p + 1)) (drop-drop (sizeAt (drop at s)) at s i) (outcomeAt s m at .machine)))
+      (answersFrom (length s + 2 - (p + 1)) (drop-drop (sizeAt (drop at s)) at s i) (outcomeAt s m at .kept)))
 
   pub running-on :
       {out′ : List ℕ} {end′ : ℕ}
       → Written out end (lineAt s m at p) out′ end′
-      → end′ ≤ end + 32
+      → end′ ≤ end + 16 * sizeAt (drop at s)
       → isLast (commandAt s at) ≡ false
-      → Running s out₀ out′ (outcomeAt s m at .machine) (at + sizeAt (drop at s)) end′ (p + 1)
+      → Running s out₀ out′ (outcomeAt s m at .kept) (at + sizeAt (drop at s)) end′ (p + 1)
   unfolding next-remaining
   running-on {out′} w b e =
       let size = size-bounds (drop at s) e in

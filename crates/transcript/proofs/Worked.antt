@@ -15,7 +15,8 @@ use Rattle.rules.specs.Step.{decideRegister, decide, step}
 use Rattle.text.specs.Text.{bytes, decimal, hex}
 use Rattle.command.specs.Command.{commandOf}
 use Rattle.line.specs.Line.{textOf, lineOf}
-use Rattle.transcript.specs.Session.{execute, answersFrom, linesFrom, answersOf, outputOf}
+use Rattle.execute.specs.Execute.{remember, tickCommand, obey}
+use Rattle.transcript.specs.Session.{answersFrom, linesFrom, answersOf, outputOf}
 use Rattle.transcript.specs.Example.{Example, examples}
 
 pub examples-hold : map (λ (e : Example). outputOf (e .input)) examples ≡ map (λ (e : Example). bytes (e .output)) examples
@@ -25,5 +26,5 @@ unfolding
     named register syndrome decode written disabledTarget stopAtEl3 counterRules rulesOf stopOf placeAccess
     decideRegister decide apply step decimal hex commandOf textOf lineOf
     implemented withPrimary withSecondary started secondaryCounts primaryCounts counted effectOf member
-    execute answersFrom linesFrom answersOf outputOf examples
+    remember tickCommand obey answersFrom linesFrom answersOf outputOf examples
 examples-hold = refl

@@ -39,7 +39,7 @@ examples =
     ∷ record { input = replicate 4097 0x00; output = "0 refused 6\n" }
     ∷ record { input = replicate 4096 0x00; output = "1 end\n" }
     -- MODEL V2: refusals 1 and 2 stop the reading, 3, 4 and 5 do not
-    ∷ record { input = 0x07 ∷ 0x00 ∷ []; output = "1 refused 1\n" }
+    ∷ record { input = 0x0A ∷ 0x00 ∷ []; output = "1 refused 1\n" }
     ∷ record {
       input = 0x02 ∷ 0x04 ∷ 0x06 ∷ 0x02 ∷ (0x01 ∷ 0x0D ∷ v 0) ++ (0x01 ∷ []);
       output = "1 refused 5\n2 refused 4\n3 refused 3\n4 refused 2\n";
@@ -54,6 +54,11 @@ examples =
           ++ (0x08 ∷ 0x05 ∷ [])
           ++ (0x08 ∷ []);
       output = "1 ok\n2 ok\n3 ok\n4 ok\n5 sampled\n6 refused 2\n";
+    }
+    -- MODEL S1, H1, H6, R18 and V2: nothing to take back, a level command taken back, and reading goes on
+    ∷ record {
+      input = 0x07 ∷ 0x02 ∷ 0x01 ∷ 0x07 ∷ 0x07 ∷ 0x00 ∷ [];
+      output = "1 refused 18\n2 ok\n3 ok\n4 refused 18\n5 end\n";
     }
     -- MODEL R1: the byte behind the last command's
     ∷ record { input = 0x09 ∷ 0x00 ∷ []; output = "1 refused 1\n" }

@@ -1,3 +1,3 @@
--- A command run on the record, the whole output of a session, and worked sessions.
+-- The whole output of a session, and worked sessions.
 pub mod Session
 pub mod Example

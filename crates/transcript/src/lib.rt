@@ -1,6 +1,4 @@
 // The whole session: commands out of bytes, each run on the record, its answer as a line.
-mod execute; // execute.rt: a command other than an access, run on the record
-
 ghost use mathlib.Core.Path.{_≡_};
 ghost use Prim.Native.Nat.{_≤_};
 ghost use lib.ListN.{length};
@@ -15,7 +13,7 @@ pub const ROOM: usize = 65600;
 
 // Writes the lines of a session that is not too long, from the fresh record on. The record is a local, and its counters are
 // one of their own: an access has them lent, and every other command takes and returns the whole record by value.
-// The table of registers is made once, and lent for each word.
+// The table of registers is made once, and lent for each word; the words of the undo list are lent to each command.
 fn write_lines(input: &[u8], out: &mut [u8]) -> usize
     requires { ⌜ (length (now input) ≤ longest) × (room ≤ length (now out)) ⌝ }
     ensures { λ end. ⌜ Written (now (out .entry)) 0 (linesFrom 1 (answersOf (now (input .entry)))) (now (out .exit)) end
@@ -24,6 +22,7 @@ fn write_lines(input: &[u8], out: &mut [u8]) -> usize
     let registers = word::table::registers();
     let mut m = machine::fresh::fresh();
     let mut counters = m.counters;
+    let mut list = [0u64; 194];
     let mut at: usize = 0;
     let mut end: usize = 0;
     let mut position: u64 = 1;
@@ -37,7 +36,7 @@ fn write_lines(input: &[u8], out: &mut [u8]) -> usize
                 let settings = m.settings;
                 let values = m.values;
                 let i = word::decode_by(&registers, word);
-                let said = access::lent_decoded(
+                let said = execute::access_decoded(
                     &mut counters,
                     &events,
                     settings,
@@ -45,6 +44,7 @@ fn write_lines(input: &[u8], out: &mut [u8]) -> usize
                     values,
                     i,
                     operand,
+                    &mut list,
                 );
                 let after = said.values;
                 m.values = after;
@@ -54,7 +54,7 @@ fn write_lines(input: &[u8], out: &mut [u8]) -> usize
             _ => {
                 let mut r = m;
                 r.counters = counters;
-                let o = execute::other(c, r);
+                let o = execute::other(c, r, &mut list);
                 let next = o.machine;
                 m = next;
                 let left = next.counters;

@@ -22,7 +22,7 @@ const GIVEN: [Change; 8] = [
 /// Command bytes that are unknown: all beside the known ones, the bits alone,
 /// and some that differ from a known one in high bits.
 const UNKNOWN: [u8; 16] = [
-    0x07, 0x09, 0x0E, 0x0F, 0x10, 0x11, 0x12, 0x1F, 0x20, 0x30, 0x40, 0x7F, 0x80, 0x81, 0xF0, 0xFF,
+    0x09, 0x0B, 0x0E, 0x0F, 0x10, 0x11, 0x12, 0x1F, 0x20, 0x30, 0x40, 0x7F, 0x80, 0x81, 0xF0, 0xFF,
 ];
 
 /// MODEL R1: reading ends at an unknown command byte, whatever follows it.
@@ -35,7 +35,7 @@ fn unknown_sessions() -> Vec<Session> {
         Session::new(format!("refusal-1-byte-{byte:02x}"), script.end())
     };
     let mut list: Vec<Session> = UNKNOWN.iter().map(|&byte| session(byte)).collect();
-    list.push(Session::new("refusal-1-first-byte", vec![0x07]));
+    list.push(Session::new("refusal-1-first-byte", vec![0x09]));
     list.push(Session::new("refusal-1-before-2", vec![0x02, 0x00, 0xFF]));
     list
 }
@@ -165,7 +165,7 @@ fn length_sessions() -> Vec<Session> {
     };
     let after = || {
         let mut bytes = Script::new(&GIVEN[..2]).end();
-        bytes.resize(LIMIT, 0x07);
+        bytes.resize(LIMIT, 0x09);
         bytes
     };
     vec![

@@ -186,6 +186,14 @@ impl Script {
         self.bytes.extend([0x08, draw]);
     }
 
+    /// MODEL H: so many steps back. The script does not follow them: the level
+    /// counts as unknown until it is put again, which show and the ends of
+    /// sessions do.
+    pub fn back(&mut self, count: usize) {
+        self.values[LEVEL as usize] = u64::MAX;
+        self.bytes.resize(self.bytes.len() + count, 0x07);
+    }
+
     /// Bytes that are no command.
     pub fn plain(&mut self, bytes: &[u8]) {
         self.bytes.extend(bytes);

@@ -1,13 +1,15 @@
 //! What the directed sessions reach: every answer, every refusal that a session
 //! can reach, every target and every cause of a trap, every register in both
 //! directions, every overflow flag, every way to switch a counter off. What is
-//! of PMSICR alone has a file of its own.
+//! of PMSICR alone has a file of its own, and so have steps back.
 
+mod back;
 mod sampling;
 
 use super::fields::{ALL_PMOVS, LEVEL, PMOVS};
 use super::script::{PMCNTENSET, PMOVSCLR, PMOVSSET};
 use super::{all, Session};
+use crate::back::Earlier;
 use crate::model::{Answer, Machine, Move, Register};
 use crate::session::{obey, parse, run, words, Command, Parsed, LIMIT};
 use std::collections::BTreeSet;
@@ -95,7 +97,7 @@ fn every_answer_is_reached() {
     let mut wanted: BTreeSet<String> =
         ["ok", "end", "undef", "other", "error", "value", "sampled"].map(str::to_string).into();
     wanted.extend((1..=3).map(|level| format!("trap {level}")));
-    wanted.extend((1..=6).chain(11..=17).map(|number| format!("refused {number}")));
+    wanted.extend((1..=6).chain(11..=18).map(|number| format!("refused {number}")));
     assert_eq!(seen, wanted);
 }
 
@@ -172,16 +174,14 @@ type Shown = (&'static str, bool, u8, String);
 
 /// The accesses to the registers that a session makes.
 fn accesses(session: &Session) -> Vec<Shown> {
-    let mut level = 0;
+    let mut machine = Machine::default();
+    let mut earlier = Earlier::default();
     let mut list = Vec::new();
-    for (command, answer) in commands(session).into_iter().zip(answers(session)) {
-        match command {
-            Command::Level(new) if answer == "ok" => level = new,
-            _ => {
-                if let Some((name, read)) = target(command) {
-                    list.push((name, read, level, answer));
-                }
-            }
+    for command in commands(session) {
+        let level = machine.el;
+        let answer = words(obey(&mut machine, &mut earlier, command));
+        if let Some((name, read)) = target(command) {
+            list.push((name, read, level, answer));
         }
     }
     list
@@ -333,9 +333,10 @@ fn hpmn_is_the_cause_at_every_counter() {
     let mut seen = BTreeSet::new();
     for session in all().iter().filter(|session| session.name.starts_with("cause-hpmn-")) {
         let mut machine = Machine::default();
+        let mut earlier = Earlier::default();
         for command in commands(session) {
             let level = machine.el;
-            let answer = words(obey(&mut machine, command));
+            let answer = words(obey(&mut machine, &mut earlier, command));
             let word = match command {
                 Command::Access { word, .. } => word,
                 _ => continue,
@@ -425,9 +426,10 @@ fn every_carry_is_there() {
     let mut seen = BTreeSet::new();
     for session in all().iter().filter(|session| session.bytes.len() <= LIMIT) {
         let mut machine = Machine::default();
+        let mut earlier = Earlier::default();
         for command in commands(session) {
             let before = machine.clone();
-            obey(&mut machine, command);
+            obey(&mut machine, &mut earlier, command);
             if target(command) == Some(("PMSWINC", false)) {
                 for m in (0..31).filter(|&m| machine.pmevcntr[m] != before.pmevcntr[m]) {
                     let high = before.have_el2 && m >= before.hpmn as usize;
@@ -449,9 +451,10 @@ fn every_switch_is_there() {
     let mut seen = BTreeSet::new();
     for session in all().iter().filter(|session| session.bytes.len() <= LIMIT) {
         let mut machine = Machine::default();
+        let mut earlier = Earlier::default();
         for command in commands(session) {
             let before = machine.clone();
-            let answer = obey(&mut machine, command);
+            let answer = obey(&mut machine, &mut earlier, command);
             let operand = match command {
                 Command::Access { word, operand } if word & 31 != 31 => operand,
                 _ => continue,

@@ -39,7 +39,7 @@ impl Writer {
     fn pmsicr_value(&mut self) -> u64 {
         let any = self.rng.next();
         let secondary = self.rng.pick(&[0, 0, 0, 1, 1, 1, 2, 3, 255, any >> 56]);
-        let primary = self.rng.pick(&[0, 1, 1, 1, 2, 2, 3, 0xFFFF_FFFF, any & 0xFFFF_FFFF]);
+        let primary = self.rng.pick(&[0, 0, 1, 1, 1, 2, 2, 3, 0xFFFF_FFFF, any & 0xFFFF_FFFF]);
         secondary << 56 | primary | self.reserved()
     }
 
@@ -118,7 +118,7 @@ impl Writer {
 impl Writer {
     fn member(&mut self, draw: u8) {
         self.bytes.extend([0x08, draw]);
-        self.machine.member(draw);
+        self.obey(Command::Member { draw });
     }
 
     pub(super) fn some_member(&mut self) {
@@ -126,11 +126,9 @@ impl Writer {
         self.member(draw);
     }
 
-    /// An access to PMSICR. The machine that steers makes it too.
+    /// An access to PMSICR.
     fn move_pmsicr(&mut self, read: bool, rt: u32, operand: u64) {
-        let word = pmsicr_word(read, rt);
-        self.access(word, operand);
-        self.machine.access(word, operand);
+        self.access(pmsicr_word(read, rt), operand);
     }
 
     /// An access to PMSICR at the level that is, whether it passes or not.

@@ -256,12 +256,13 @@ fn causes_are_printed() {
 /// The traps of a session: the register, whether it is read, level and cause.
 fn traps(bytes: &[u8]) -> BTreeSet<(&'static str, bool, u8, u8)> {
     let mut machine = Machine::default();
+    let mut earlier = Earlier::default();
     let mut list = BTreeSet::new();
     let mut at = 0;
     while let Parsed::Command(command, length) = parse(&bytes[at..]) {
         at += length;
         let level = machine.el;
-        let answer = obey(&mut machine, command);
+        let answer = obey(&mut machine, &mut earlier, command);
         if let (Command::Access { word, .. }, Answer::Trap { cause, .. }) = (command, answer) {
             let found = Move::decode(word).expect("move");
             let name = match found.register() {

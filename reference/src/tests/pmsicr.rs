@@ -258,11 +258,12 @@ fn generated_sessions_reach_pmsicr() {
     for index in 0..3000 {
         let bytes = generate::session(26, index);
         let mut machine = Machine::default();
+        let mut earlier = Earlier::default();
         let mut at = 0;
         while let Parsed::Command(command, length) = parse(&bytes[at..]) {
             at += length;
             let before = machine.clone();
-            let answer = obey(&mut machine, command);
+            let answer = obey(&mut machine, &mut earlier, command);
             if let Command::Access { word, .. } = command {
                 let passes = matches!(answer, Answer::Ok | Answer::Moved { .. });
                 if word & !(1 << 21 | 31) == WRITE & !31 && passes {

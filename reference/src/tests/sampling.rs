@@ -269,12 +269,13 @@ type Met = (bool, bool, u64, u64, bool);
 /// The members of a session that count.
 fn met(bytes: &[u8]) -> Vec<Met> {
     let mut machine = Machine::default();
+    let mut earlier = Earlier::default();
     let mut list = Vec::new();
     let mut at = 0;
     while let Parsed::Command(command, length) = parse(&bytes[at..]) {
         at += length;
         let r = machine.clone();
-        let refused = matches!(obey(&mut machine, command), Answer::Refused(_));
+        let refused = matches!(obey(&mut machine, &mut earlier, command), Answer::Refused(_));
         if let Command::Member { draw } = command {
             if r.spe && r.profiling && !refused {
                 let (secondary, primary) = (r.pmsicr >> 56, r.pmsicr & 0xFFFF_FFFF);
@@ -316,11 +317,12 @@ fn generated_sessions_start_profiling() {
     for index in 0..3000 {
         let bytes = generate::session(34, index);
         let mut machine = Machine::default();
+        let mut earlier = Earlier::default();
         let mut at = 0;
         while let Parsed::Command(command, length) = parse(&bytes[at..]) {
             at += length;
             let r = machine.clone();
-            obey(&mut machine, command);
+            obey(&mut machine, &mut earlier, command);
             if let Command::Set { field: 0x83, value: 1 } = command {
                 let parts = [r.pmsicr >> 56, r.pmsicr >> 32 & 0xFF_FFFF, r.pmsicr & 0xFFFF_FFFF];
                 let ones = parts.map(|part| part != 0);

@@ -1,6 +1,7 @@
 -- `command::command_of` meets its contract: a case for each branch, by the contracts of what it calls.
 use mathlib.Core.Path.{sym, _∙_}
 use native.Mathlib.Omega.{arith}
+use borrow.Author.Tests.{lt-ltb, le-ltb}
 use Rattle.command.proofs.Front.{front-none, front-unknown, front-cut, front-whole}
 use borrow.Author.Needs.{needs}
 use Rattle.command.proofs.command_of.Statement.{statement}
@@ -13,13 +14,13 @@ returns c = let at-start = c .before .before in
 returns-2 : tie.Need-returns-2
 returns-2 c =
     let at-start = c .before .before .before .before in
-    sym (front-unknown (at-start .args .t .now) (omega arith) (c .if2 .taken))
+    sym (front-unknown (at-start .args .t .now) (omega arith) (lt-ltb 0x08 _ (c .if2 .taken)))
 
 returns-3 : tie.Need-returns-3
 returns-3 c =
     let at-if2 = c .before .before in
     let at-start = at-if2 .before .before .before .before in
-    sym (front-cut (at-start .args .t .now) (omega arith) (at-if2 .if2 .left) (omega (arith, c .before .operand-bytes .ensures)))
+    sym (front-cut (at-start .args .t .now) (omega arith) (le-ltb 0x08 _ (at-if2 .if2 .left)) (omega (arith, c .before .operand-bytes .ensures)))
 
 returns-4 : tie.Need-returns-4
 returns-4 c =
@@ -28,7 +29,7 @@ returns-4 c =
     let at-start = at-if2 .before .before .before .before in
     c .command-with .ensures
     ∙ sym
-    (front-whole (at-start .args .t .now) (omega arith) (at-if2 .if2 .left)
+    (front-whole (at-start .args .t .now) (omega arith) (le-ltb 0x08 _ (at-if2 .if2 .left))
     (omega (arith, at-operand-bytes .operand-bytes .ensures)))
 
 pub command-of-spec : {M : Type 1} → statement M

@@ -56,7 +56,7 @@ shared-slice-read-t18 c =
 shared-slice-read-t20 : tie.Need-shared-slice-read-t20
 shared-slice-read-t20 c =
     let at-start = c .before .before .before in
-    omega (arith, simp (c .before .match .keys7) at (at-start .pre))
+    omega (arith, simp (c .before .match .keys8) at (at-start .pre))
 
 returns : tie.Need-returns
 returns c =
@@ -103,15 +103,19 @@ returns-6 c =
     simp (at-match .match .keys6) (ap Command.Tick byte)
 
 returns-7 : tie.Need-returns-7
-returns-7 c =
-    let at-match = c .before in
-    let at-start = at-match .before .before in
-    let byte = byte-behind (at-start .args .t .now) (omega (arith, simp (at-match .match .keys7) at (at-start .pre))) in
-    simp (at-match .match .keys7) (ap Command.Member byte)
+returns-7 c = simp (c .match .keys7)
 
 returns-8 : tie.Need-returns-8
 returns-8 c =
+    let at-match = c .before in
+    let at-start = at-match .before .before in
+    let byte = byte-behind (at-start .args .t .now) (omega (arith, simp (at-match .match .keys8) at (at-start .pre))) in
+    simp (at-match .match .keys8) (ap Command.Member byte)
+
+returns-9 : tie.Need-returns-9
+returns-9 c =
     simp (
+      ne-eqb _ _ (c .match .rest .0 .0 .0 .0 .0 .0 .0 .1),
       ne-eqb _ _ (c .match .rest .0 .0 .0 .0 .0 .0 .1),
       ne-eqb _ _ (c .match .rest .0 .0 .0 .0 .0 .1),
       ne-eqb _ _ (c .match .rest .0 .0 .0 .0 .1),
@@ -145,4 +149,5 @@ command-with-spec =
     returns-5
     returns-6
     returns-7
-    returns-8)
+    returns-8
+    returns-9)

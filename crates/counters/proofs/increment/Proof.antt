@@ -4,6 +4,7 @@ use mathlib.Core.Path.{_≡_, refl, sym, _∙_, ap}
 use native.Mathlib.Omega.{arith}
 use lib.ListN.{getD, length, length-set}
 use Rattle.rules.specs.Apply.{incremented}
+use Rattle.rules.specs.Overflow.{width, plusOne}
 use Rattle.rules.proofs.Sweep.{sweep, ahead}
 use Rattle.counters.proofs.Turns.{half, turn, done-early, done-all}
 use Rattle.counters.proofs.FlagTurns.{flagged, flags-start, flag-turn, flags-early, flags-all}
@@ -31,15 +32,18 @@ same-length : tie.Need-same-length Inv-loop μ-loop
 same-length c = c .before .before .loop .inv .1
 
 returns : tie.Need-returns Inv-loop μ-loop
+unfolding incremented
 returns c =
     let at-loop = c .before .before in
     let at-start = at-loop .before .before .before in
     let args = at-start .args in
     let i = at-loop .loop .i in
     let inv = at-loop .loop .inv in
+    let add = incremented (args .s .features .p5) (args .events .now) (args .mask) in
+    let one = plusOne (width (args .s .features .p5)) in
     let none = sym (c .if1 .taken) ∙ inv .3 in (
       inv .4 ∙ flags-early (args .s) (args .events .now) (args .mask) (args .counters .now) (args .ovs) i none,
-      inv .2 ∙ done-early _ _ _ _ i none,
+      inv .2 ∙ done-early add one (args .events .now) (args .mask) (λ m y. refl) _ i none,
     )
 
 mul-y : tie.Need-mul-y Inv-loop μ-loop
@@ -61,6 +65,7 @@ loop-less : tie.Need-loop-less Inv-loop μ-loop
 loop-less c = omega arith
 
 loop-again : tie.Need-loop-again Inv-loop μ-loop
+unfolding incremented
 loop-again c =
     let at-event = c .before .before .before in
     let at-loop = at-event .before .before .before in
@@ -70,11 +75,12 @@ loop-again c =
     let rest = at-loop .loop .rest in
     let inv = at-loop .loop .inv in
     let add = incremented (args .s .features .p5) (args .events .now) (args .mask) in
+    let one = plusOne (width (args .s .features .p5)) in
     let held = ap (λ l. getD l i 0) (inv .2) ∙ ahead add i (args .counters .now) i (omega arith) in (
       omega arith,
       simp length-set (inv .1),
-      turn _ _ _ _ i rest _ (at-loop .loop .counters) _ (inv .2) (inv .3) (at-event .event .ensures)
-          (c .before .incremented .ensures),
+      turn add one (args .events .now) (args .mask) (λ m y. refl) _ i rest _ (at-loop .loop .counters) _ (inv .2) (inv .3)
+          (at-event .event .ensures) (c .before .incremented .ensures),
       half _ i rest (inv .3),
       flag-turn (args .s) (args .events .now) (args .mask) (args .counters .now) (args .ovs) i rest _ _ (at-loop .loop .flags) _
           (inv .4) (inv .3) (at-event .event .ensures) held (c .flagged .ensures),
@@ -84,15 +90,18 @@ same-length-2 : tie.Need-same-length-2 Inv-loop μ-loop
 same-length-2 c = c .before .loop .inv .1
 
 returns-2 : tie.Need-returns-2 Inv-loop μ-loop
+unfolding incremented
 returns-2 c =
     let at-loop = c .before in
     let at-start = at-loop .before .before .before in
     let args = at-start .args in
     let i = at-loop .loop .i in
     let inv = at-loop .loop .inv in
+    let add = incremented (args .s .features .p5) (args .events .now) (args .mask) in
+    let one = plusOne (width (args .s .features .p5)) in
     let all : length (args .counters .now) ≤ i = omega (arith, c .loop-test .left) in (
       inv .4 ∙ flags-all (args .s) (args .events .now) (args .mask) (args .counters .now) (args .ovs) i all,
-      inv .2 ∙ done-all _ _ _ _ i all,
+      inv .2 ∙ done-all add one (args .events .now) (args .mask) (λ m y. refl) _ i all,
     )
 
 pub increment-spec : {M : Type 1} → statement M

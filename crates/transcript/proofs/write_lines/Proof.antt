@@ -1,32 +1,37 @@
 -- `transcript::write_lines` meets its contract: its loop keeps the invariant, which at the end says the definition. The
--- record is the
--- local `m` with the local `counters` for its own.
+-- record is the local `m` with the local `counters` for its own, and the earlier records are those of the local `list`.
 use Prim.Native.Nat.{_-_}
+use mathlib.Core.List.{[]}
 use mathlib.Core.Logic.{⊎-elim}
-use mathlib.Core.Path.{_≡_, sym, _∙_, ap₂}
+use mathlib.Core.Path.{_≡_, sym, _∙_, ap, ap₂}
 use native.Mathlib.Omega.{arith}
 use borrow.Author.Needs.{needs}
 use lib.ListN.{length}
+use Rattle.machine.specs.declared.Machine.{Machine}
 use Rattle.machine.specs.Machine.{withCounters}
 use Rattle.machine.specs.Outcome.{says}
-use Rattle.transcript.specs.Session.{execute}
-use Rattle.transcript.proofs.Ran.{no-access, access-ran, other-ran}
+use Rattle.execute.specs.Execute.{obey}
+use Rattle.execute.specs.Words.{earlierBy, keptBy, obeyedBy}
+use Rattle.execute.proofs.Tags.{no-access}
+use Rattle.journal.specs.Journal.{listed, entries}
+use Rattle.transcript.proofs.Ran.{access-ran, other-ran}
 use Rattle.transcript.proofs.Running.{Running, running-start}
 use Rattle.transcript.proofs.Turn.{turn-end, turn-size, turn-on}
 use Rattle.transcript.proofs.write_lines.Statement.{statement}
 use Rattle.transcript.proofs.write_lines.Tie as tie
 
 abbrev Inv-loop : tie.InvT-loop
-Inv-loop input out₀ registers m₀ counters₀ at₀ end₀ position₀ out m counters at end position =
-    Running input out₀ out (withCounters counters m) at end position
+Inv-loop input out₀ registers m₀ counters₀ list₀ at₀ end₀ position₀ out m counters list at end position =
+    Running input out₀ out (keptBy (withCounters counters m) list) at end position
 
 abbrev μ-loop : tie.MeasureT-loop
-μ-loop input out₀ registers m₀ counters₀ at₀ end₀ position₀ out m counters at end position = length input - at
+μ-loop input out₀ registers m₀ counters₀ list₀ at₀ end₀ position₀ out m counters list at end position = length input - at
 
 loop-holds : tie.Need-loop-holds Inv-loop μ-loop
+unfolding entries listed earlierBy
 loop-holds c =
     let at-start = c .before .before .before .before .before in
-    running-start (c .before .fresh .ensures) (at-start .pre .0) (at-start .pre .1)
+    running-start (ap (λ (m : Machine). record { machine = m; earlier = [] }) (c .before .fresh .ensures)) (at-start .pre .0) (at-start .pre .1)
 
 sub-command-of : tie.Need-sub-command-of Inv-loop μ-loop
 sub-command-of c = omega (arith, c .loop .inv .within)
@@ -53,8 +58,8 @@ decode-by-requires c κs =
 
 other-requires : tie.Need-other-requires Inv-loop μ-loop
 other-requires c κs =
-    let at-command-of = c .before .before .before in
-    no-access (at-command-of .command-of .result) (c .match .keys2)
+    let at-command-of = c .before .before .before .before in
+    no-access (at-command-of .command-of .result) (c .before .match .keys2)
 
 line-requires : tie.Need-line-requires Inv-loop μ-loop
 line-requires c κs =
@@ -77,16 +82,18 @@ returns c =
     let at-command-of = at-size-at .before .before in
     let at-loop = at-command-of .before .before in
     let same =
-    ⊎-elim {C = at-match .match .c ≡ at-command-of .command-of .result} (λ w. w .14 ∙ sym (w .1 .given .1)) (λ v. v .6)
+    ⊎-elim {C = at-match .match .c ≡ at-command-of .command-of .result} (λ w. w .16 ∙ sym (w .1 .given .1)) (λ v. v .8)
     (at-match .match .came) in
     let m = withCounters (at-loop .loop .counters) (at-loop .loop .m) in
+    let words = at-loop .loop .list in
     let ran =
     ⊎-elim {C =
-    says (at-match .match .a) (withCounters (at-match .match .counters) (at-match .match .m)) ≡ execute (at-match .match .c) m}
+    obeyedBy (says (at-match .match .a) (withCounters (at-match .match .counters) (at-match .match .m))) (at-match .match .list)
+    ≡ obey (at-match .match .c) (keptBy m words)}
     (λ w.
-    access-ran _ m _ _ _ _ _ (w .10 .result) _ (w .14) (w .7 .ensures) (w .10 .ensures) (w .15)
-    (ap₂ withCounters (w .13) (w .12)))
-    (λ v. other-ran _ m _ _ _ (v .1 .result) (v .6) (v .1 .ensures) (v .7) (ap₂ withCounters (v .5) (v .4)))
+    access-ran _ m words _ _ _ _ _ _ (w .11 .result) _ _ (w .16) (w .7 .ensures) (w .11 .ensures) (w .17)
+    (ap₂ withCounters (w .14) (w .13)) (w .15))
+    (λ v. other-ran _ m words _ _ _ _ (v .2 .result) _ (v .8) (v .2 .ensures) (v .9) (ap₂ withCounters (v .6) (v .5)) (v .7))
     (at-match .match .came) in (
       turn-end (at-loop .loop .inv) (same ∙ at-command-of .command-of .ensures) (at-size-at .size-at .ensures)
           (c .before .is-last .ensures) ran (at-line .line .ensures .0) (c .if1 .taken),
@@ -101,16 +108,18 @@ loop-again c =
     let at-command-of = at-size-at .before .before in
     let at-loop = at-command-of .before .before in
     let same =
-    ⊎-elim {C = at-match .match .c ≡ at-command-of .command-of .result} (λ w. w .14 ∙ sym (w .1 .given .1)) (λ v. v .6)
+    ⊎-elim {C = at-match .match .c ≡ at-command-of .command-of .result} (λ w. w .16 ∙ sym (w .1 .given .1)) (λ v. v .8)
     (at-match .match .came) in
     let m = withCounters (at-loop .loop .counters) (at-loop .loop .m) in
+    let words = at-loop .loop .list in
     let ran =
     ⊎-elim {C =
-    says (at-match .match .a) (withCounters (at-match .match .counters) (at-match .match .m)) ≡ execute (at-match .match .c) m}
+    obeyedBy (says (at-match .match .a) (withCounters (at-match .match .counters) (at-match .match .m))) (at-match .match .list)
+    ≡ obey (at-match .match .c) (keptBy m words)}
     (λ w.
-    access-ran _ m _ _ _ _ _ (w .10 .result) _ (w .14) (w .7 .ensures) (w .10 .ensures) (w .15)
-    (ap₂ withCounters (w .13) (w .12)))
-    (λ v. other-ran _ m _ _ _ (v .1 .result) (v .6) (v .1 .ensures) (v .7) (ap₂ withCounters (v .5) (v .4)))
+    access-ran _ m words _ _ _ _ _ _ (w .11 .result) _ _ (w .16) (w .7 .ensures) (w .11 .ensures) (w .17)
+    (ap₂ withCounters (w .14) (w .13)) (w .15))
+    (λ v. other-ran _ m words _ _ _ _ (v .2 .result) _ (v .8) (v .2 .ensures) (v .9) (ap₂ withCounters (v .6) (v .5)) (v .7))
     (at-match .match .came) in
     turn-on (at-loop .loop .inv) (same ∙ at-command-of .command-of .ensures) (at-size-at .size-at .ensures)
     (c .before .is-last .ensures) ran (at-line .line .ensures .0) (at-line .line .ensures .1) (c .if1 .left)
@@ -122,7 +131,7 @@ loop-less c =
     let at-command-of = at-size-at .before .before in
     let at-loop = at-command-of .before .before in
     let same =
-    ⊎-elim {C = at-match .match .c ≡ at-command-of .command-of .result} (λ w. w .14 ∙ sym (w .1 .given .1)) (λ v. v .6)
+    ⊎-elim {C = at-match .match .c ≡ at-command-of .command-of .result} (λ w. w .16 ∙ sym (w .1 .given .1)) (λ v. v .8)
     (at-match .match .came) in
     omega (
       arith,

@@ -14,9 +14,10 @@ fn steps() -> Vec<(Machine, Command, Answer)> {
     let mut list = Vec::new();
     for session in all().iter().filter(ours) {
         let mut machine = Machine::default();
+        let mut earlier = Earlier::default();
         for command in commands(session) {
             let before = machine.clone();
-            let answer = obey(&mut machine, command);
+            let answer = obey(&mut machine, &mut earlier, command);
             list.push((before, command, answer));
         }
     }

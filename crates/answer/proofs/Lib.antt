@@ -1,0 +1,2 @@
+-- Laws of a choice by a test.
+pub mod Choice

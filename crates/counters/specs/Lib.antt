@@ -1,0 +1,2 @@
+-- The definitions of the crate `counters`.
+pub mod Decremented

@@ -1,0 +1,46 @@
+-- What the tag of a command says, where a match takes every variant but some.
+use Prim.Native.Nat.{ℕ}
+use mathlib.Core.Bool.{false}
+use mathlib.Core.List.{List, [], _∷_}
+use mathlib.Core.Path.{_≡_, refl}
+use types.Run.{OneOf, miss}
+use denote.Enum.Declared.{tagOf}
+use Rattle.answer.specs.declared.Answer.{Answer}
+use Rattle.command.specs.declared.Command.{Command}
+use Rattle.command.specs.Command.{isAccess}
+use Rattle.command.proofs.Command as C′
+use Rattle.machine.specs.declared.Machine.{Machine}
+use Rattle.machine.specs.Outcome.{says}
+use Rattle.execute.specs.Execute.{Kept, keeping, obey}
+
+-- every variant but 3, the access
+abbrev others : List ℕ
+others = 0 ∷ 1 ∷ 2 ∷ 4 ∷ 5 ∷ 6 ∷ 7 ∷ 8 ∷ 9 ∷ []
+
+pub no-access : (c : Command) → OneOf others (tagOf C′.the-type c) → isAccess c ≡ false
+no-access Command.End t = refl
+no-access (Command.Set f v) t = refl
+no-access (Command.Level l) t = refl
+no-access (Command.Access w x) t = absurd (miss others 3 tt t)
+no-access (Command.Read o) t = refl
+no-access (Command.Write o x) t = refl
+no-access (Command.Tick p) t = refl
+no-access Command.Back t = refl
+no-access (Command.Member d) t = refl
+no-access (Command.Bad r) t = refl
+
+-- variant 0 or 3, and no access: the end command
+pub only-end :
+    (c : Command) (k : Kept) → OneOf (0 ∷ 3 ∷ []) (tagOf C′.the-type c) → isAccess c ≡ false
+    → keeping (says Answer.End (k .machine)) k ≡ obey c k
+unfolding obey
+only-end Command.End k t n = refl
+only-end (Command.Set f v) k t n = absurd (miss (0 ∷ 3 ∷ []) 1 tt t)
+only-end (Command.Level l) k t n = absurd (miss (0 ∷ 3 ∷ []) 2 tt t)
+only-end (Command.Access w x) k t n = cc
+only-end (Command.Read o) k t n = absurd (miss (0 ∷ 3 ∷ []) 4 tt t)
+only-end (Command.Write o x) k t n = absurd (miss (0 ∷ 3 ∷ []) 5 tt t)
+only-end (Command.Tick p) k t n = absurd (miss (0 ∷ 3 ∷ []) 6 tt t)
+only-end Command.Back k t n = absurd (miss (0 ∷ 3 ∷ []) 7 tt t)
+only-end (Command.Member d) k t n = absurd (miss (0 ∷ 3 ∷ []) 8 tt t)
+only-end (Command.Bad e) k t n = absurd (miss (0 ∷ 3 ∷ []) 9 tt t)

@@ -1,0 +1,3 @@
+-- The definitions of the crate `execute`.
+pub mod Execute
+pub mod Words

@@ -1,0 +1,138 @@
+-- Steps back by calls of the code, as specs/Calls.antt states it. All that is known of a call is the contract of
+-- `execute::access_decoded` or `execute::other`, as the check takes it from the source: were one weaker, `gives` would be refused.
+use Prim.Native.Nat.{ℕ, zero, suc}
+use mathlib.Core.Bool.{false}
+use mathlib.Core.List.{List, [], _∷_}
+use mathlib.Core.Logic.{∥∥₁-elim, ∥∥₁-map, ∥∥₁-prop}
+use mathlib.Core.Path.{_≡_, refl, sym, _∙_, ap}
+use base.Stored.{coded-set}
+use borrow.Fn.World.{World}
+use lib.ListN.{replicate}
+use Rattle.access.specs.Calls.{Obeyed, Reference, to}
+use Rattle.access.specs.Lent.{Stayed, sayingSo}
+use Rattle.access.proofs.Calls.{asked, said, stated}
+use Rattle.answer.specs.declared.Answer.{Answer}
+use Rattle.command.specs.declared.Command.{Command}
+use Rattle.command.specs.Command.{isAccess}
+use Rattle.execute.specs.Execute.{Kept, Obeyed as Did, obey}
+use Rattle.execute.specs.Words.{keptBy, obeyedBy, Accessed}
+use Rattle.execute.proofs.access_decoded as access′
+use Rattle.execute.proofs.other as other′
+use Rattle.machine.specs.declared.Machine.{Machine}
+use Rattle.machine.specs.Outcome.{says}
+use Rattle.machine.proofs.Machine as M′
+use Rattle.rules.specs.Word.{decode}
+use Rattle.transcript.proofs.Ran.{access-ran}
+use Rattle.undo.specs.declared.Change.{Change}
+use Rattle.histories.specs.Back.{after, steps, stepsBack}
+use Rattle.histories.specs.Calls.{MayGive, Run, none, next, CallsThereAndBack}
+use Rattle.histories.proofs.ThereAndBack.{there-and-back}
+
+-- a call of `execute::other`
+abbrev Other : World → MayGive
+Other w c m words answer left between =
+    (l : Reference)
+    × Obeyed
+    w
+    other′.ended
+    (other′.clauses (w .𝓤) (w .H) (w .𝓖 .A) (w .𝓜 .mem) (w .𝓡 .run))
+    (l .lifetime, tt)
+    (c, (m, (to l words, tt)))
+    (tt, (tt, (between, tt)))
+    (says answer left)
+
+-- a call of `execute::access_decoded` with the instruction that the word is, and the parts of the record
+abbrev Access : World → ℕ → ℕ → Machine → List ℕ → Answer → Machine → List ℕ → Type 1
+Access w word x m words answer left between =
+    (p : Reference)
+    × (q : Reference)
+    × (l : Reference)
+    × (k : Change)
+    × Stayed m left
+    × Obeyed
+    w
+    access′.ended
+    (access′.clauses (w .𝓤) (w .H) (w .𝓖 .A) (w .𝓜 .mem) (w .𝓡 .run))
+    (p .lifetime, (q .lifetime, (l .lifetime, tt))) (
+      to p (m .counters),
+      (to q (m .events), (m .settings, (m .level, (m .values, (decode word, (x, (to l words, tt))))))),
+    )
+    (left .counters, (tt, (tt, (tt, (tt, (tt, (tt, (between, tt))))))))
+    (sayingSo answer left k)
+
+-- the call for a command
+abbrev pub Call : World → MayGive
+Call w Command.End = Other w Command.End
+Call w (Command.Set f v) = Other w (Command.Set f v)
+Call w (Command.Level l) = Other w (Command.Level l)
+Call w (Command.Access word x) = Access w word x
+Call w (Command.Read o) = Other w (Command.Read o)
+Call w (Command.Write o x) = Other w (Command.Write o x)
+Call w (Command.Tick p) = Other w (Command.Tick p)
+Call w Command.Back = Other w Command.Back
+Call w (Command.Member d) = Other w (Command.Member d)
+Call w (Command.Bad n) = Other w (Command.Bad n)
+
+module _ (w : World) where
+  -- a call does what the definition says
+  Does : Command → Machine → List ℕ → Answer → Machine → List ℕ → Type 0
+  Does c m words answer left between = ∥ obeyedBy (says answer left) between ≡ obey c (keptBy m words) ∥₁
+
+  other-does :
+      (c : Command) → isAccess c ≡ false → (m : Machine) (words : List ℕ) (answer : Answer) (left : Machine) (between : List ℕ)
+      → Other w c m words answer left between
+      → Does c m words answer left between
+  unfolding Does
+  other-does c n m words answer left between call =
+      said w (obeyedBy (says answer left) between ≡ obey c (keptBy m words))
+      (call .1 tt (stated w (isAccess c ≡ false) n (asked w)))
+
+  access-does :
+      (word x : ℕ) (m : Machine) (words : List ℕ) (answer : Answer) (left : Machine) (between : List ℕ)
+      → Access w word x m words answer left between
+      → Does (Command.Access word x) m words answer left between
+  unfolding Does
+  access-does word x m words answer left between call =
+      ∥∥₁-map
+      (said w (Accessed (decode word) x m (sayingSo answer left (call .3)) (left .counters) words between) (call .5 tt (asked w)))
+      (λ a. access-ran (Command.Access word x) m words answer left between word x (decode word) _ _ _ refl refl a refl
+      (call .4) refl)
+
+  does :
+      (c : Command) (m : Machine) (words : List ℕ) (answer : Answer) (left : Machine) (between : List ℕ)
+      → Call w c m words answer left between
+      → Does c m words answer left between
+  does Command.End = other-does Command.End refl
+  does (Command.Set f v) = other-does (Command.Set f v) refl
+  does (Command.Level l) = other-does (Command.Level l) refl
+  does (Command.Access word x) = access-does word x
+  does (Command.Read o) = other-does (Command.Read o) refl
+  does (Command.Write o x) = other-does (Command.Write o x) refl
+  does (Command.Tick p) = other-does (Command.Tick p) refl
+  does Command.Back = other-does Command.Back refl
+  does (Command.Member d) = other-does (Command.Member d) refl
+  does (Command.Bad n) = other-does (Command.Bad n) refl
+
+  -- so a run of calls leaves what the commands, run by the definition, leave
+  runs :
+      {cs : List Command} {m left : Machine} {words words′ : List ℕ} → Run (Call w) cs m words left words′
+      → ∥ keptBy left words′ ≡ after cs (keptBy m words) ∥₁
+  unfolding after Does
+  runs none = ∣ refl ∣₁
+  runs (next {c = c} {cs = cs} call more) =
+      ∥∥₁-elim (does c _ _ _ _ _ call) ∥∥₁-prop
+      (λ e. ∥∥₁-map (runs more) (λ r. r ∙ ap (λ (o : Did). after cs (o .kept)) e))
+
+  backs : (n : ℕ) (k : Kept) → after (replicate n Command.Back) k ≡ stepsBack n k
+  unfolding after stepsBack
+  backs zero k = refl
+  backs (suc n) k = backs n (obey Command.Back k .kept)
+
+  pub calls-there-and-back : CallsThereAndBack (Call w)
+  calls-there-and-back cs m left back words words′ words″ there f l run =
+      ∥∥₁-elim (runs there) (coded-set (M′.the-row .coded) back m)
+      (λ t. ∥∥₁-elim (runs run) (coded-set (M′.the-row .coded) back m)
+      (λ b.
+      let n = steps cs (keptBy m words) in
+      ap (λ (k : Kept). k .machine) (b ∙ backs n (keptBy left words′) ∙ ap (stepsBack n) t)
+      ∙ there-and-back cs (keptBy m words) f l))

@@ -1,0 +1,7 @@
+-- No command brings refusal 10 about; steps back bring the record back; the examples.
+pub mod Refusal10
+pub mod Bounded
+pub mod Reached
+pub mod ThereAndBack
+pub mod Calls
+pub mod Examples

@@ -1,0 +1,3 @@
+-- Laws of what takes a command back.
+pub mod TakenBack
+pub mod Steps
