@@ -1,4 +1,4 @@
-//! MODEL H: the list behind step back. For each listed step it keeps the whole
+//! MODEL H1 to H6: the list behind step back. For each listed step it keeps the whole
 //! record that was there before, so that taking the step back is putting that
 //! record in place again. Which steps are listed, session.rs decides.
 

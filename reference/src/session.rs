@@ -96,7 +96,7 @@ fn go_on(machine: &mut Machine, command: Command) -> Answer {
     }
 }
 
-/// MODEL H: takes the latest listed step back, whatever the record is like. The
+/// MODEL H1 and H6: takes the latest listed step back, whatever the record is like. The
 /// step is gone then, and this is none that could be taken back itself.
 fn go_back(machine: &mut Machine, earlier: &mut Earlier) -> Answer {
     match earlier.take() {

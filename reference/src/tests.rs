@@ -4,7 +4,7 @@
 //! T1 to T6 and I1 to I6) with the causes of traps, the overflow flags against
 //! sums of 128 bits, and the counters that are off. Causes have a file of their
 //! own, and so have accesses to PMSICR, the members of the sample population
-//! (MODEL J5 to J9), and steps back (MODEL H).
+//! (MODEL J5 to J9), and steps back (MODEL H1 to H7).
 
 mod back;
 mod back_sessions;

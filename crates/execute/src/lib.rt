@@ -36,7 +36,8 @@ pub fn note(a: Answer, u: Undo, list: &mut [u64; 194])
 fn forget(a: Answer, list: &mut [u64; 194])
     ensures { λ r. ⌜ entries (now (list .exit)) ≡ cond (isRefused a) (entries (now (list .entry))) [] ⌝ }
 {
-    if answer::is_refused(a) {
+    let kept = answer::is_refused(a);
+    if kept {
         return;
     }
     journal::empty(list);

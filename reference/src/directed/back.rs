@@ -1,4 +1,4 @@
-//! MODEL H: one step, and back over it. Accesses that are stopped, that answer
+//! MODEL H1 and H2: one step, and back over it. Accesses that are stopped, that answer
 //! in one word, that are ignored, that read, and that write; and level
 //! commands. Steps that count are in back_counts.rs.
 

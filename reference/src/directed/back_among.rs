@@ -1,4 +1,4 @@
-//! MODEL H: steps back among commands that are no steps. External reads, what is
+//! MODEL H4 to H6: steps back among commands that are no steps. External reads, what is
 //! refused, sets that empty the list and refused ones that do not, and records
 //! that are not consistent.
 

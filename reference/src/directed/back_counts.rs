@@ -1,4 +1,4 @@
-//! MODEL H: back over one step that counts or moves flags: PMSWINC, external
+//! MODEL H1 and H2: back over one step that counts or moves flags: PMSWINC, external
 //! writes, ticks and members of the sample population; and over those of these
 //! that change nothing.
 

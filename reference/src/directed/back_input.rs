@@ -1,4 +1,4 @@
-//! MODEL H, R1, R2 and R6: the byte 07 in a session. First, last and alone, with no
+//! MODEL H1, H6, R1, R2 and R6: the byte 07 in a session. First, last and alone, with no
 //! operand and as an operand, beside unknown bytes and cut commands, and in
 //! sessions of the greatest length.
 

@@ -1,4 +1,4 @@
-//! MODEL H: how many steps can be taken back. Up to 64 steps and as many back, more
+//! MODEL H3 and H7: how many steps can be taken back. Up to 64 steps and as many back, more
 //! steps than are kept and more steps back than there are steps, runs of both in
 //! turn, and long runs of one kind of step.
 

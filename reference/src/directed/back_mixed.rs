@@ -1,4 +1,4 @@
-//! MODEL H: back over steps that later ones build on, one by one. What is among
+//! MODEL H1 and H2: back over steps that later ones build on, one by one. What is among
 //! the steps and is none has a file of its own, back_among.rs.
 
 use super::back::{see, start, ICNTR_WRITE};

@@ -186,7 +186,7 @@ impl Script {
         self.bytes.extend([0x08, draw]);
     }
 
-    /// MODEL H: so many steps back. The script does not follow them: the level
+    /// MODEL H1: so many steps back. The script does not follow them: the level
     /// counts as unknown until it is put again, which show and the ends of
     /// sessions do.
     pub fn back(&mut self, count: usize) {

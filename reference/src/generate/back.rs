@@ -1,4 +1,4 @@
-//! MODEL H: random steps back. Behind a few steps, in runs, and more of them than
+//! MODEL H1 to H7: random steps back. Behind a few steps, in runs, and more of them than
 //! there are steps; and sessions in which sets come to an end, so that more
 //! steps are listed than are kept.
 

@@ -1,4 +1,4 @@
-//! MODEL H: steps back. Which commands are listed; as many steps back as steps,
+//! MODEL H1 to H7: steps back. Which commands are listed; as many steps back as steps,
 //! from random records; the 65th step; and records that are not consistent.
 //! Whole sessions have a file of their own.
 

@@ -1,4 +1,4 @@
-//! MODEL H: steps back in whole sessions, random and directed. Against a second way
+//! MODEL H1 to H7: steps back in whole sessions, random and directed. Against a second way
 //! to step back, which keeps commands instead of records and runs them again;
 //! against the number of steps that are left, by the lines alone; and that
 //! random sessions step back.

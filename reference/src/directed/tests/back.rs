@@ -1,4 +1,4 @@
-//! MODEL H: what the directed sessions reach of steps back: each kind of step is
+//! MODEL H1 to H7: what the directed sessions reach of steps back: each kind of step is
 //! taken back where it changed something and where it did not, from every
 //! number of listed steps, in every state, and the refusal by each way to an
 //! empty list.
