@@ -67,7 +67,7 @@ fn apply(d: Decision, counters: &mut [u64], events: &[u16], s: Settings, v: Valu
             change: undo::UNCHANGED,
         },
         Decision::Write { place, value } => {
-            let change = undo::held(counters, v, place);
+            let change = undo::of_place(counters, v, place);
             Said {
                 answer: Answer::Ok,
                 values: put(counters, s, v, place, value),
@@ -80,7 +80,7 @@ fn apply(d: Decision, counters: &mut [u64], events: &[u16], s: Settings, v: Valu
             Said {
                 answer: Answer::Ok,
                 values: values,
-                change: undo::incremented(mask),
+                change: undo::of_increments(mask),
             }
         }
     }

@@ -1,16 +1,16 @@
 -- What putting HPMN above a counter changes: with a number up to N the record stays consistent, and the rest is as before. And N
 -- allows m + 1.
 use Prim.Native.Nat.{ℕ, _+_, _<_, _≤_}
-use mathlib.Core.Bool.{Bool, true, false, not, cond, _&&_, _||_, and-false}
+use mathlib.Core.Bool.{Bool, true, false, not, cond, _&&_, and-false}
 use mathlib.Core.Path.{_≡_, refl, sym, _∙_, ap, subst}
 use native.Mathlib.Omega.{arith}
-use borrow.Author.Tests.{ltb-true, ltb-false, leb-true, leb-false, lt-ltb, le-ltb, le-leb, lt-leb, ne-eqb}
+use borrow.Author.Tests.{ltb-true, leb-true, leb-false, lt-ltb, le-ltb, le-leb, lt-leb, ne-eqb}
 use lib.Dec.{leb, ltb, eqb}
 use Rattle.answer.specs.declared.Cause.the-variants.{Hpmn}
 use Rattle.answer.specs.declared.Refusal.the-variants.{ValueTooLarge}
-use Rattle.fields.specs.Largest.{largest, exceeds, largestLevel}
+use Rattle.fields.specs.Largest.{largest, exceeds}
 use Rattle.fields.specs.Set.{set, setAll}
-use Rattle.machine.proofs.Bools.{and-left, and-right, or-left, or-right}
+use Rattle.machine.proofs.Bools.{and-left, and-right, or-right}
 use Rattle.machine.specs.declared.Machine.{Machine}
 use Rattle.machine.specs.Outcome.{refused, done}
 use Rattle.rules.specs.declared.Register.the-variants.{Pmevcntr}

@@ -9,7 +9,7 @@ use lib.Dec.{leb, ltb}
 use lib.ListN.{length, getD}
 use Rattle.answer.specs.declared.Refusal.the-variants.{UnknownCommand, Truncated}
 use Rattle.command.specs.declared.Command.{Command}
-use Rattle.answer.proofs.Choice.{either}
+use Rattle.bits.proofs.Choice.{either}
 use Rattle.command.specs.Command.{operandBytes, isUnknown, commandWith, commandOf, sizeAt, isLast, isBack}
 
 pub size-none : (s : List ℕ) → length s ≡ 0 → sizeAt s ≡ 0

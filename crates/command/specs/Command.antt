@@ -95,3 +95,16 @@ isBack (Command.Tick p) = false
 isBack Command.Back = true
 isBack (Command.Member d) = false
 isBack (Command.Bad r) = false
+
+-- MODEL S1: the command is a set
+abbrev pub isSet : Command → Bool
+isSet Command.End = false
+isSet (Command.Set f v) = true
+isSet (Command.Level l) = false
+isSet (Command.Access w x) = false
+isSet (Command.Read o) = false
+isSet (Command.Write o x) = false
+isSet (Command.Tick p) = false
+isSet Command.Back = false
+isSet (Command.Member d) = false
+isSet (Command.Bad n) = false

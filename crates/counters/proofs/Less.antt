@@ -1,8 +1,8 @@
 -- One less, in the counter's width: by a 64-bit difference that wraps, and that it takes one more back.
 use Prim.Native.Nat.{ℕ, _+_, _-_, _%_, _^_, _<_}
-use mathlib.Core.Bool.{Bool, true, false, cond}
-use mathlib.Core.List.{List, [], _∷_}
-use mathlib.Core.Path.{_≡_, refl}
+use mathlib.Core.Bool.{Bool, true, false}
+use mathlib.Core.List.{[]}
+use mathlib.Core.Path.{_≡_}
 use native.Mathlib.Omega.{arith}
 use Rattle.rules.specs.Overflow.{width, plusOne}
 use Rattle.counters.specs.Decremented.{minusOne}

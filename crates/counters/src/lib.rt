@@ -137,6 +137,9 @@ pub fn decrement(counters: &mut [u64], events: &[u16], p5: bool, mask: u64)
     let mut rest = mask;
     let mut i: usize = 0;
     while i < counters.len() {
+        if rest == 0 {
+            return;
+        }
         let took = (rest % 2 == 1) & (event(events, i) == 0);
         let y = counters[i];
         counters[i] = decremented(p5, took, y);

@@ -2,3 +2,4 @@
 pub mod Taken
 pub mod Noted
 pub mod Tags
+pub mod Ran

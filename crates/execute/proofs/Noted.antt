@@ -11,7 +11,7 @@ use Rattle.answer.specs.declared.Refusal.the-variants.{NothingToUndo}
 use Rattle.answer.specs.Refused.{isRefused}
 use Rattle.journal.specs.declared.Entry.{Entry}
 use Rattle.journal.specs.declared.Recalled.{Recalled}
-use Rattle.journal.specs.Journal.{longest, entries, latest, rest}
+use Rattle.journal.specs.Journal.{capacity, entries, latest, rest}
 use Rattle.machine.specs.declared.Machine.{Machine}
 use Rattle.machine.specs.declared.Outcome.{Outcome}
 use Rattle.machine.specs.Outcome.{says, refused}
@@ -20,8 +20,8 @@ use Rattle.rules.specs.Step.{stepDecoded}
 use Rattle.undo.specs.declared.Undo.{Undo}
 use Rattle.undo.specs.Undo.{changeDecoded, undoOf, undone, Typed}
 use Rattle.undo.proofs.Steps.{step-taken-back}
-use Rattle.execute.specs.Execute.{obeyed, remember, listing, emptying, keeping, backFrom}
-use Rattle.execute.specs.Words.{earlierBy, keptBy, obeyedBy, noted}
+use Rattle.execute.specs.Execute.{response, remember, listing, emptying, keeping, backFrom}
+use Rattle.execute.specs.Words.{earlierBy, historyBy, responseBy, noted}
 use Rattle.execute.proofs.Taken.{Stays, step-stays}
 
 -- the list that is cut is the cut list
@@ -39,27 +39,27 @@ module _ (r : Machine) (o : Outcome) (stays : Stays r o) (words words′ : List 
 
   -- listed, unless it was refused
   pub listed :
-      (u : Undo) → undone u (o .machine) ≡ r → entries words′ ≡ noted (o .answer) u (entries words)
-      → obeyedBy o words′ ≡ listing o (keptBy r words)
+      (u : Undo) (tag : ℕ) → undone u (o .machine) ≡ r → entries words′ ≡ noted (o .answer) u tag (entries words)
+      → responseBy o words′ ≡ listing o (historyBy r words)
   unfolding earlierBy remember
-  listed u back e = ap (obeyed o) (go (isRefused (o .answer)) stays e)
+  listed u tag back e = ap (response o) (go (isRefused (o .answer)) stays e)
     where
       go :
           (b : Bool) → (b ≡ true → o .machine ≡ r)
-          → entries words′ ≡ cond b (entries words) (take longest (record { undo = u; tag = 0 } ∷ entries words))
+          → entries words′ ≡ cond b (entries words) (take capacity (record { undo = u; tag = tag } ∷ entries words))
           → earlierBy (entries words′) (o .machine)
           ≡ cond b (earlierBy (entries words) r) (remember r (earlierBy (entries words) r))
       go true s e = same-earlier e (s refl)
       go false s e =
           ap (λ es. earlierBy es (o .machine)) e
-          ∙ earlier-take longest (record { undo = u; tag = 0 } ∷ entries words) (o .machine)
-          ∙ ap (λ m. take longest (m ∷ earlierBy (entries words) m)) back
+          ∙ earlier-take capacity (record { undo = u; tag = tag } ∷ entries words) (o .machine)
+          ∙ ap (λ m. take capacity (m ∷ earlierBy (entries words) m)) back
 
   -- emptied, unless it was refused
   pub emptied :
-      entries words′ ≡ cond (isRefused (o .answer)) (entries words) [] → obeyedBy o words′ ≡ emptying o (keptBy r words)
+      entries words′ ≡ cond (isRefused (o .answer)) (entries words) [] → responseBy o words′ ≡ emptying o (historyBy r words)
   unfolding earlierBy
-  emptied e = ap (obeyed o) (go (isRefused (o .answer)) stays e)
+  emptied e = ap (response o) (go (isRefused (o .answer)) stays e)
     where
       go :
           (b : Bool) → (b ≡ true → o .machine ≡ r) → entries words′ ≡ cond b (entries words) []
@@ -72,60 +72,61 @@ pub access-listed :
     (i : Instruction) (x : ℕ) (r : Machine) → Typed (r .counters) → {said : Said} {after : List ℕ}
     → Lent (stepDecoded i x r) (changeDecoded i x r) said after
     → (words words′ : List ℕ)
-    → entries words′ ≡ noted (said .answer) (undoOf (said .change) r) (entries words)
-    → obeyedBy (stepDecoded i x r) words′ ≡ listing (stepDecoded i x r) (keptBy r words)
-access-listed i x r typed l words words′ e =
-    listed r (stepDecoded i x r) (step-stays r i x) words words′ (undoOf (changeDecoded i x r) r) (step-taken-back r typed i x)
-    (e ∙ (λ k. noted (l .answer k) (undoOf (l .change k) r) (entries words)))
+    → (tag : ℕ) → entries words′ ≡ noted (said .answer) (undoOf (said .change) r) tag (entries words)
+    → responseBy (stepDecoded i x r) words′ ≡ listing (stepDecoded i x r) (historyBy r words)
+access-listed i x r typed l words words′ tag e =
+    listed r (stepDecoded i x r) (step-stays r i x) words words′ (undoOf (changeDecoded i x r) r) tag
+    (step-taken-back r typed i x) (e ∙ (λ k. noted (l .answer k) (undoOf (l .change k) r) tag (entries words)))
 
--- the same of a call's result o, which the definition says is p, and of what the call before it made, which is u
+-- the same of a call's result o, which the definition says is p
 module _ (r : Machine) (words words′ : List ℕ) {o : Outcome} (p : Outcome) (same : o ≡ p) (stays : Stays r p) where
   pub is-listed :
-      {v : Undo} (u : Undo) → v ≡ u → undone u (p .machine) ≡ r → entries words′ ≡ noted (o .answer) v (entries words)
-      → obeyedBy o words′ ≡ listing p (keptBy r words)
-  is-listed u q back e =
-      ap (λ o. obeyedBy o words′) same
-      ∙ listed r p stays words words′ u back (e ∙ ap₂ (λ (o : Outcome) v. noted (o .answer) v (entries words)) same q)
+      (u : Undo) → undone u (p .machine) ≡ r → {result : Outcome}
+      → (result ≡ o) × (entries words′ ≡ noted (o .answer) u 0 (entries words))
+      → responseBy result words′ ≡ listing p (historyBy r words)
+  is-listed u back e =
+      ap (λ o. responseBy o words′) (e .0 ∙ same)
+      ∙ listed r p stays words words′ u 0 back (e .1 ∙ ap (λ (o : Outcome). noted (o .answer) u 0 (entries words)) same)
 
   pub is-emptied :
-      entries words′ ≡ cond (isRefused (o .answer)) (entries words) [] → obeyedBy o words′ ≡ emptying p (keptBy r words)
+      entries words′ ≡ cond (isRefused (o .answer)) (entries words) [] → responseBy o words′ ≡ emptying p (historyBy r words)
   is-emptied e =
-      ap (λ o. obeyedBy o words′) same
+      ap (λ o. responseBy o words′) same
       ∙ emptied r p stays words words′ (e ∙ ap (λ (o : Outcome). cond (isRefused (o .answer)) (entries words) []) same)
 
 -- a command that changes neither the record nor the list
 pub is-kept :
     (r : Machine) (words : List ℕ) {o : Outcome} (p : Outcome) → o ≡ p → p .machine ≡ r
-    → obeyedBy o words ≡ keeping p (keptBy r words)
+    → responseBy o words ≡ keeping p (historyBy r words)
 is-kept r words p same stayed =
-    ap (λ o. obeyedBy o words) same ∙ ap (λ m. obeyed p (earlierBy (entries words) m)) stayed
+    ap (λ o. responseBy o words) same ∙ ap (λ m. response p (earlierBy (entries words) m)) stayed
 
 -- the step back, from what is recalled and what then is listed
 module _ (r : Machine) (words words′ : List ℕ) (found : Recalled) where
   pub nothing-back :
       found ≡ Recalled.Nothing → found ≡ latest (entries words) → entries words′ ≡ rest (entries words)
-      → obeyedBy (refused NothingToUndo r) words′ ≡ backFrom r (earlierBy (entries words) r)
+      → responseBy (refused NothingToUndo r) words′ ≡ backFrom r (earlierBy (entries words) r)
   unfolding earlierBy
   nothing-back n l e = go (entries words) (sym n ∙ l) e
     where
       go :
           (es : List Entry) → Recalled.Nothing ≡ latest es → entries words′ ≡ rest es
-          → obeyedBy (refused NothingToUndo r) words′ ≡ backFrom r (earlierBy es r)
-      go [] l e = ap (λ es. obeyed (refused NothingToUndo r) (earlierBy es r)) e
+          → responseBy (refused NothingToUndo r) words′ ≡ backFrom r (earlierBy es r)
+      go [] l e = ap (λ es. response (refused NothingToUndo r) (earlierBy es r)) e
       go (x ∷ es) l e = cc
 
   pub latest-back :
       {x : Entry} → found ≡ Recalled.Latest x → found ≡ latest (entries words) → entries words′ ≡ rest (entries words)
       → (m : Machine) → m ≡ undone (x .undo) r
-      → obeyedBy (says Answer.Ok m) words′ ≡ backFrom r (earlierBy (entries words) r)
+      → responseBy (says Answer.Ok m) words′ ≡ backFrom r (earlierBy (entries words) r)
   unfolding earlierBy
   latest-back {x} n l e m u = go (entries words) (sym n ∙ l) e
     where
       go :
           (es : List Entry) → Recalled.Latest x ≡ latest es → entries words′ ≡ rest es
-          → obeyedBy (says Answer.Ok m) words′ ≡ backFrom r (earlierBy es r)
+          → responseBy (says Answer.Ok m) words′ ≡ backFrom r (earlierBy es r)
       go [] l e = cc
       go (y ∷ es) l e =
           let same : x ≡ y = cc in
-          λ i. obeyed (says Answer.Ok ((u ∙ ap (λ z. undone (z .undo) r) same) i))
+          λ i. response (says Answer.Ok ((u ∙ ap (λ z. undone (z .undo) r) same) i))
           (earlierBy (e i) ((u ∙ ap (λ z. undone (z .undo) r) same) i))

@@ -9,9 +9,8 @@ use Rattle.answer.specs.declared.Answer.{Answer}
 use Rattle.command.specs.declared.Command.{Command}
 use Rattle.command.specs.Command.{isAccess}
 use Rattle.command.proofs.Command as C′
-use Rattle.machine.specs.declared.Machine.{Machine}
 use Rattle.machine.specs.Outcome.{says}
-use Rattle.execute.specs.Execute.{Kept, keeping, obey}
+use Rattle.execute.specs.Execute.{History, keeping, obey}
 
 -- every variant but 3, the access
 abbrev others : List ℕ
@@ -31,7 +30,7 @@ no-access (Command.Bad r) t = refl
 
 -- variant 0 or 3, and no access: the end command
 pub only-end :
-    (c : Command) (k : Kept) → OneOf (0 ∷ 3 ∷ []) (tagOf C′.the-type c) → isAccess c ≡ false
+    (c : Command) (k : History) → OneOf (0 ∷ 3 ∷ []) (tagOf C′.the-type c) → isAccess c ≡ false
     → keeping (says Answer.End (k .machine)) k ≡ obey c k
 unfolding obey
 only-end Command.End k t n = refl

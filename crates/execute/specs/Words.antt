@@ -9,14 +9,14 @@ use Rattle.access.specs.Lent.{Lent}
 use Rattle.answer.specs.declared.Answer.{Answer}
 use Rattle.answer.specs.Refused.{isRefused}
 use Rattle.journal.specs.declared.Entry.{Entry}
-use Rattle.journal.specs.Journal.{longest, entries}
+use Rattle.journal.specs.Journal.{capacity, entries}
 use Rattle.machine.specs.declared.Machine.{Machine}
 use Rattle.machine.specs.declared.Outcome.{Outcome}
 use Rattle.rules.specs.declared.Instruction.{Instruction}
 use Rattle.rules.specs.Step.{stepDecoded}
 use Rattle.undo.specs.declared.Undo.{Undo}
 use Rattle.undo.specs.Undo.{changeDecoded, undone}
-use Rattle.execute.specs.Execute.{Kept, Obeyed, listing}
+use Rattle.execute.specs.Execute.{History, Response, listing}
 
 -- MODEL H8: the records before the commands of which these are kept, the latest first, where this is the record after them
 unfoldable pub earlierBy : List Entry → Machine → List Machine
@@ -24,18 +24,18 @@ earlierBy [] m = []
 earlierBy (e ∷ es) m = undone (e .undo) m ∷ earlierBy es (undone (e .undo) m)
 
 -- MODEL H9: a record, and the earlier ones that the words of an undo list stand for
-abbrev pub keptBy : Machine → List ℕ → Kept
-keptBy m words = record { machine = m; earlier = earlierBy (entries words) m }
+abbrev pub historyBy : Machine → List ℕ → History
+historyBy m words = record { machine = m; earlier = earlierBy (entries words) m }
 
 -- MODEL H9: an outcome, and the words of the undo list afterwards
-abbrev pub obeyedBy : Outcome → List ℕ → Obeyed
-obeyedBy o words = record { answer = o .answer; kept = keptBy (o .machine) words }
+abbrev pub responseBy : Outcome → List ℕ → Response
+responseBy o words = record { answer = o .answer; kept = historyBy (o .machine) words }
 
 -- MODEL X4, H2 and H9: an access with the counters lent, and the words of the undo list before and after it
 pub record Accessed (i : Instruction) (x : ℕ) (m : Machine) (said : Said) (after words words′ : List ℕ) : Type 0 where
   pub lent : Lent (stepDecoded i x m) (changeDecoded i x m) said after
-  pub listed : obeyedBy (stepDecoded i x m) words′ ≡ listing (stepDecoded i x m) (keptBy m words)
+  pub listed : responseBy (stepDecoded i x m) words′ ≡ listing (stepDecoded i x m) (historyBy m words)
 
--- MODEL H2 and H9: the entries after a command of which this is kept, unless it was refused; a session uses no tag
-abbrev pub noted : Answer → Undo → List Entry → List Entry
-noted a u es = cond (isRefused a) es (take longest (record { undo = u; tag = 0 } ∷ es))
+-- MODEL H2 and H9: the entries after a command of which this is kept, with a tag, unless it was refused
+abbrev pub noted : Answer → Undo → ℕ → List Entry → List Entry
+noted a u tag es = cond (isRefused a) es (take capacity (record { undo = u; tag = tag } ∷ es))

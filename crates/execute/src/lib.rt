@@ -6,8 +6,9 @@ ghost use Rattle.answer.specs.Refused.{isRefused};
 ghost use Rattle.command.specs.Command.{isAccess};
 ghost use Rattle.journal.specs.Journal.{entries};
 ghost use Rattle.machine.specs.Machine.{machineOf};
+ghost use Rattle.undo.specs.Undo.{held};
 ghost use Rattle.execute.specs.Execute.{backFrom, tickCommand, obey};
-ghost use Rattle.execute.specs.Words.{earlierBy, keptBy, obeyedBy, Accessed, noted};
+ghost use Rattle.execute.specs.Words.{earlierBy, historyBy, responseBy, Accessed, noted};
 use access::Said;
 use answer::Answer;
 use answer::Refusal;
@@ -21,14 +22,14 @@ use machine::Values;
 use rules::Instruction;
 use undo::Undo;
 
-// Lists a command that answers a and of which u is kept, unless it was refused.
-pub fn note(a: Answer, u: Undo, list: &mut [u64; 194])
-    ensures { λ r. ⌜ entries (now (list .exit)) ≡ noted a u (entries (now (list .entry))) ⌝ }
+// Lists a command that answers a and of which u is kept, with a tag, unless it was refused.
+pub fn note(a: Answer, u: Undo, tag: u32, list: &mut [u64; 194])
+    ensures { λ r. ⌜ entries (now (list .exit)) ≡ noted a u tag (entries (now (list .entry))) ⌝ }
 {
     if answer::is_refused(a) {
         return;
     }
-    let e = Entry { undo: u, tag: 0 };
+    let e = Entry { undo: u, tag: tag };
     journal::remember(list, e);
 }
 
@@ -45,7 +46,7 @@ fn forget(a: Answer, list: &mut [u64; 194])
 
 // The step back: the record before the latest listed command, or refused with 18 where none is listed.
 fn back(r: Machine, list: &mut [u64; 194]) -> Outcome
-    ensures { λ o. ⌜ obeyedBy o (now (list .exit)) ≡ backFrom r (earlierBy (entries (now (list .entry))) r) ⌝ }
+    ensures { λ o. ⌜ responseBy o (now (list .exit)) ≡ backFrom r (earlierBy (entries (now (list .entry))) r) ⌝ }
 {
     let latest = journal::recall(list);
     match latest {
@@ -63,8 +64,8 @@ fn back(r: Machine, list: &mut [u64; 194]) -> Outcome
     }
 }
 
-// The access with instruction i, a word taken apart, and operand x to the record with these parts, its counters lent; it is listed
-// unless it is refused.
+// The access with instruction i, a word taken apart, and operand x to the record with these parts, its counters lent; it is
+// listed unless it is refused.
 pub fn access_decoded(
     counters: &mut [u64; 31],
     events: &[u16; 31],
@@ -91,7 +92,7 @@ pub fn access_decoded(
         level: level,
         ovs: v.ovs,
     };
-    note(a, u, list);
+    note(a, u, 0, list);
     said
 }
 
@@ -108,14 +109,25 @@ fn tick_command(p: u8, r: Machine) -> Outcome
     external::tick(p == 1, r)
 }
 
+// The outcome of a command by value, listed unless it was refused: the field that it may have changed, and the level and the
+// overflow flags before it, are kept.
+fn listed(o: Outcome, field: u8, old: u64, level: u8, ovs: u64, list: &mut [u64; 194]) -> Outcome
+    ensures { λ r. ⌜ (r ≡ o) × (entries (now (list .exit)) ≡ noted (o .answer)
+        (record { change = held field old; level = level; ovs = ovs }) 0 (entries (now (list .entry)))) ⌝ }
+{
+    let a = o.answer;
+    note(a, undo::kept(field, old, level, ovs), 0, list);
+    o
+}
+
 // What a command other than an access answers and does to the record and the list.
 pub fn other(c: Command, r: Machine, list: &mut [u64; 194]) -> Outcome
     requires { ⌜ isAccess c ≡ false ⌝ }
-    ensures { λ o. ⌜ obeyedBy o (now (list .exit)) ≡ obey c (keptBy r (now (list .entry))) ⌝ }
+    ensures { λ o. ⌜ responseBy o (now (list .exit)) ≡ obey c (historyBy r (now (list .entry))) ⌝ }
 {
-    let level = r.level;
-    let values = r.values;
-    let settings = r.settings;
+    let at = r.level;
+    let v = r.values;
+    let s = r.settings;
     match c {
         Command::Set { field, value } => {
             let o = fields::set::set(field, value, r);
@@ -123,36 +135,40 @@ pub fn other(c: Command, r: Machine, list: &mut [u64; 194]) -> Outcome
             forget(a, list);
             o
         }
-        Command::Level { level: l } => {
-            let o = fields::set::set_level(l, r);
-            let a = o.answer;
-            note(a, undo::kept(undo::NOTHING, 0, level, values.ovs), list);
-            o
-        }
+        Command::Level { level } => listed(
+            fields::set::set_level(level, r),
+            undo::NOTHING,
+            0,
+            at,
+            v.ovs,
+            list,
+        ),
         Command::Read { offset } => external::read(offset, r),
-        Command::Write { offset, value } => {
-            let o = external::write(offset, value, r);
-            let a = o.answer;
-            note(a, undo::kept(0x34, settings.cnten, level, values.ovs), list);
-            o
-        }
-        Command::Tick { prohibited } => {
-            let o = tick_command(prohibited, r);
-            let a = o.answer;
-            note(
-                a,
-                undo::kept(0x7F, values.instructions, level, values.ovs),
-                list,
-            );
-            o
-        }
+        Command::Write { offset, value } => listed(
+            external::write(offset, value, r),
+            0x34,
+            s.cnten,
+            at,
+            v.ovs,
+            list,
+        ),
+        Command::Tick { prohibited } => listed(
+            tick_command(prohibited, r),
+            0x7F,
+            v.instructions,
+            at,
+            v.ovs,
+            list,
+        ),
         Command::Back => back(r, list),
-        Command::Member { draw } => {
-            let o = external::member(draw, r);
-            let a = o.answer;
-            note(a, undo::kept(0x8C, values.pmsicr, level, values.ovs), list);
-            o
-        }
+        Command::Member { draw } => listed(
+            external::member(draw, r),
+            0x8C,
+            v.pmsicr,
+            at,
+            v.ovs,
+            list,
+        ),
         Command::Bad(n) => Outcome {
             answer: Answer::Refused(n),
             machine: r,

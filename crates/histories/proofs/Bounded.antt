@@ -7,7 +7,7 @@ use borrow.Author.Tests.{le-ltb, eqb-true}
 use lib.Dec.{ltb, eqb}
 use Rattle.answer.specs.declared.Answer.{Answer}
 use Rattle.bits.specs.Bits.{bit}
-use Rattle.answer.proofs.Choice.{either}
+use Rattle.bits.proofs.Choice.{either}
 use Rattle.execute.specs.Execute.{tickCommand}
 use Rattle.fields.specs.Largest.{largest, exceeds, largestLevel}
 use Rattle.fields.specs.Set.{set, setLevel}

@@ -1,10 +1,11 @@
 -- Steps back by calls of the code, as specs/Calls.antt states it. All that is known of a call is the contract of
--- `execute::access_decoded` or `execute::other`, as the check takes it from the source: were one weaker, `gives` would be refused.
+-- `execute::access_decoded` or `execute::other`, as the check takes it from the source: were one weaker, `does` would be
+-- refused.
 use Prim.Native.Nat.{ℕ, zero, suc}
 use mathlib.Core.Bool.{false}
-use mathlib.Core.List.{List, [], _∷_}
+use mathlib.Core.List.{List, []}
 use mathlib.Core.Logic.{∥∥₁-elim, ∥∥₁-map, ∥∥₁-prop}
-use mathlib.Core.Path.{_≡_, refl, sym, _∙_, ap}
+use mathlib.Core.Path.{_≡_, refl, _∙_, ap}
 use base.Stored.{coded-set}
 use borrow.Fn.World.{World}
 use lib.ListN.{replicate}
@@ -14,15 +15,15 @@ use Rattle.access.proofs.Calls.{asked, said, stated}
 use Rattle.answer.specs.declared.Answer.{Answer}
 use Rattle.command.specs.declared.Command.{Command}
 use Rattle.command.specs.Command.{isAccess}
-use Rattle.execute.specs.Execute.{Kept, Obeyed as Did, obey}
-use Rattle.execute.specs.Words.{keptBy, obeyedBy, Accessed}
+use Rattle.execute.specs.Execute.{History, Response, obey}
+use Rattle.execute.specs.Words.{historyBy, responseBy, Accessed}
 use Rattle.execute.proofs.access_decoded as access′
 use Rattle.execute.proofs.other as other′
 use Rattle.machine.specs.declared.Machine.{Machine}
 use Rattle.machine.specs.Outcome.{says}
 use Rattle.machine.proofs.Machine as M′
 use Rattle.rules.specs.Word.{decode}
-use Rattle.transcript.proofs.Ran.{access-ran}
+use Rattle.execute.proofs.Ran.{access-ran}
 use Rattle.undo.specs.declared.Change.{Change}
 use Rattle.histories.specs.Back.{after, steps, stepsBack}
 use Rattle.histories.specs.Calls.{MayGive, Run, none, next, CallsThereAndBack}
@@ -76,7 +77,7 @@ Call w (Command.Bad n) = Other w (Command.Bad n)
 module _ (w : World) where
   -- a call does what the definition says
   Does : Command → Machine → List ℕ → Answer → Machine → List ℕ → Type 0
-  Does c m words answer left between = ∥ obeyedBy (says answer left) between ≡ obey c (keptBy m words) ∥₁
+  Does c m words answer left between = ∥ responseBy (says answer left) between ≡ obey c (historyBy m words) ∥₁
 
   other-does :
       (c : Command) → isAccess c ≡ false → (m : Machine) (words : List ℕ) (answer : Answer) (left : Machine) (between : List ℕ)
@@ -84,7 +85,7 @@ module _ (w : World) where
       → Does c m words answer left between
   unfolding Does
   other-does c n m words answer left between call =
-      said w (obeyedBy (says answer left) between ≡ obey c (keptBy m words))
+      said w (responseBy (says answer left) between ≡ obey c (historyBy m words))
       (call .1 tt (stated w (isAccess c ≡ false) n (asked w)))
 
   access-does :
@@ -116,14 +117,14 @@ module _ (w : World) where
   -- so a run of calls leaves what the commands, run by the definition, leave
   runs :
       {cs : List Command} {m left : Machine} {words words′ : List ℕ} → Run (Call w) cs m words left words′
-      → ∥ keptBy left words′ ≡ after cs (keptBy m words) ∥₁
+      → ∥ historyBy left words′ ≡ after cs (historyBy m words) ∥₁
   unfolding after Does
   runs none = ∣ refl ∣₁
   runs (next {c = c} {cs = cs} call more) =
       ∥∥₁-elim (does c _ _ _ _ _ call) ∥∥₁-prop
-      (λ e. ∥∥₁-map (runs more) (λ r. r ∙ ap (λ (o : Did). after cs (o .kept)) e))
+      (λ e. ∥∥₁-map (runs more) (λ r. r ∙ ap (λ (o : Response). after cs (o .kept)) e))
 
-  backs : (n : ℕ) (k : Kept) → after (replicate n Command.Back) k ≡ stepsBack n k
+  backs : (n : ℕ) (k : History) → after (replicate n Command.Back) k ≡ stepsBack n k
   unfolding after stepsBack
   backs zero k = refl
   backs (suc n) k = backs n (obey Command.Back k .kept)
@@ -133,6 +134,6 @@ module _ (w : World) where
       ∥∥₁-elim (runs there) (coded-set (M′.the-row .coded) back m)
       (λ t. ∥∥₁-elim (runs run) (coded-set (M′.the-row .coded) back m)
       (λ b.
-      let n = steps cs (keptBy m words) in
-      ap (λ (k : Kept). k .machine) (b ∙ backs n (keptBy left words′) ∙ ap (stepsBack n) t)
-      ∙ there-and-back cs (keptBy m words) f l))
+      let n = steps cs (historyBy m words) in
+      ap (λ (k : History). k .machine) (b ∙ backs n (historyBy left words′) ∙ ap (stepsBack n) t)
+      ∙ there-and-back cs (historyBy m words) f l))

@@ -6,13 +6,13 @@ use mathlib.Core.List.{List, [], _∷_}
 use mathlib.Core.Path.{_≡_, refl, ap}
 use native.Mathlib.Omega.{arith}
 use lib.ListN.{length, take, drop}
-use Rattle.answer.proofs.Choice.{either}
+use Rattle.bits.proofs.Choice.{either}
 use Rattle.answer.specs.declared.Answer.{Answer}
 use Rattle.answer.specs.declared.Refusal.the-variants.{FieldTooLarge}
 use Rattle.answer.specs.Refused.{isRefused}
 use Rattle.command.specs.declared.Command.{Command}
 use Rattle.command.specs.Command.{commandOf, sizeAt, isLast}
-use Rattle.execute.specs.Execute.{Kept, Obeyed, begun, remember, listing, emptying, keeping, backFrom, obey}
+use Rattle.execute.specs.Execute.{History, Response, begun, remember, listing, emptying, keeping, backFrom, obey}
 use Rattle.fields.specs.Largest.{largest}
 use Rattle.machine.specs.declared.Machine.{Machine}
 use Rattle.machine.specs.declared.Outcome.{Outcome}
@@ -76,12 +76,12 @@ front-spares [] = refl
 front-spares (c ∷ s) = search (either Sparing) depth 13
 
 -- record and list after a command, and its answer
-record FitsOn (o : Obeyed) : Type 0 where
+record FitsOn (o : Response) : Type 0 where
   answer : isRefusal10 (o .answer) ≡ false
   machine : Fits (o .kept .machine)
   earlier : AllFit (o .kept .earlier)
 
-module _ (k : Kept) (m : Fits (k .machine)) (h : AllFit (k .earlier)) where
+module _ (k : History) (m : Fits (k .machine)) (h : AllFit (k .earlier)) where
   keeping-fits : (o : Outcome) → Bounded o → FitsOn (keeping o k)
   keeping-fits o b = record { answer = b .answer; machine = b .machine; earlier = h }
 
@@ -121,7 +121,7 @@ module _ (k : Kept) (m : Fits (k .machine)) (h : AllFit (k .earlier)) where
 
 -- the answers from a record and list on that do not meet refusal 10
 answers-fit :
-    (n : ℕ) (s : List ℕ) (k : Kept) → Fits (k .machine) → AllFit (k .earlier) → all NotRefusal10 (answersFrom n s k)
+    (n : ℕ) (s : List ℕ) (k : History) → Fits (k .machine) → AllFit (k .earlier) → all NotRefusal10 (answersFrom n s k)
 unfolding answersFrom
 answers-fit zero s k m h = tt
 answers-fit (suc n) s k m h =

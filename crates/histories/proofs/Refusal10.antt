@@ -6,7 +6,7 @@ use mathlib.Core.Path.{_≡_, refl}
 use lib.Dec.{eqb}
 use Rattle.answer.specs.declared.Answer.{Answer}
 use Rattle.answer.specs.Numbers.{refusalNumber}
-use Rattle.answer.proofs.Choice.{either, second}
+use Rattle.bits.proofs.Choice.{either, second}
 use Rattle.machine.specs.declared.Machine.{Machine}
 use Rattle.rules.specs.declared.Decision.{Decision}
 use Rattle.rules.specs.declared.Instruction.{Instruction}

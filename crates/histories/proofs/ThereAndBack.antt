@@ -9,10 +9,10 @@ use lib.ListN.{take}
 use Rattle.answer.specs.declared.Answer.{Answer}
 use Rattle.answer.specs.Refused.{isRefused}
 use Rattle.command.specs.declared.Command.{Command}
-use Rattle.execute.specs.Execute.{Kept, remember, listing, keeping, emptying, tickCommand, obey}
+use Rattle.execute.specs.Execute.{History, remember, listing, keeping, emptying, tickCommand, obey}
 use Rattle.execute.proofs.Taken.{Stays, set-stays, level-stays, step-stays, read-same, write-stays, tick-stays, member-stays}
 use Rattle.fields.specs.Set.{set, setLevel}
-use Rattle.journal.specs.Journal.{longest}
+use Rattle.journal.specs.Journal.{capacity}
 use Rattle.machine.proofs.Bools.{and-left, and-right}
 use Rattle.machine.specs.declared.Machine.{Machine}
 use Rattle.machine.specs.declared.Outcome.{Outcome}
@@ -25,7 +25,8 @@ use Rattle.histories.specs.Back.{after, lists, goesOn, steps, forward, s
 -- what was cut off is not reached
 uncut :
     (n j : ℕ) (m : Machine) (h : List Machine) → n ≤ j
-    → stepsBack n (record { machine = m; earlier = take j h }) .machine ≡ stepsBack n (record { machine = m; earlier = h }) .machine
+    → stepsBack n (record { machine = m; earlier = take j h }) .machine
+    ≡ stepsBack n (record { machine = m; earlier = h }) .machine
 unfolding stepsBack obey
 uncut zero j m h l = refl
 uncut (suc n) zero m h l = let z : ⊥ = omega arith in absurd z
@@ -38,13 +39,13 @@ from n m h = stepsBack n (record { machine = m; earlier = h }) .machine
 
 -- a command that is listed, unless it was refused, and the step back over it
 listing-on :
-    (o : Outcome) (k : Kept) → Stays (k .machine) o → (n : ℕ) → cond (not (isRefused (o .answer))) 1 0 + n ≤ longest
+    (o : Outcome) (k : History) → Stays (k .machine) o → (n : ℕ) → cond (not (isRefused (o .answer))) 1 0 + n ≤ capacity
     → stepsBack (cond (not (isRefused (o .answer))) 1 0 + n) (listing o k .kept) .machine ≡ stepsBack n k .machine
 unfolding stepsBack obey remember
 listing-on o k stays n = go (isRefused (o .answer)) stays
   where
     go :
-        (b : Bool) → (b ≡ true → o .machine ≡ k .machine) → cond (not b) 1 0 + n ≤ longest
+        (b : Bool) → (b ≡ true → o .machine ≡ k .machine) → cond (not b) 1 0 + n ≤ capacity
         → from (cond (not b) 1 0 + n) (o .machine) (cond b (k .earlier) (remember (k .machine) (k .earlier)))
         ≡ stepsBack n k .machine
     go true s l = ap₂ (λ j m. from j m (k .earlier)) (zero-add n) (s refl)
@@ -55,13 +56,13 @@ listing-on o k stays n = go (isRefused (o .answer)) stays
 
 -- a command that leaves record and list as they were
 keeping-on :
-    (o : Outcome) (k : Kept) → o .machine ≡ k .machine → (n : ℕ)
+    (o : Outcome) (k : History) → o .machine ≡ k .machine → (n : ℕ)
     → stepsBack (0 + n) (keeping o k .kept) .machine ≡ stepsBack n k .machine
 keeping-on o k e n = ap₂ (λ j m. from j m (k .earlier)) (zero-add n) e
 
 -- a set command that was refused
 emptying-on :
-    (o : Outcome) (k : Kept) → Stays (k .machine) o → not (not (isRefused (o .answer))) ≡ true → (n : ℕ)
+    (o : Outcome) (k : History) → Stays (k .machine) o → not (not (isRefused (o .answer))) ≡ true → (n : ℕ)
     → stepsBack (0 + n) (emptying o k .kept) .machine ≡ stepsBack n k .machine
 emptying-on o k stays e n = go (isRefused (o .answer)) stays e
   where
@@ -78,8 +79,8 @@ word-stays w x r = step-stays r (decode w) x
 
 -- the steps back that a command adds take it back
 one :
-    (c : Command) (k : Kept) → goesOn c (obey c k .answer) ≡ true → (n : ℕ)
-    → cond (lists c (obey c k .answer)) 1 0 + n ≤ longest
+    (c : Command) (k : History) → goesOn c (obey c k .answer) ≡ true → (n : ℕ)
+    → cond (lists c (obey c k .answer)) 1 0 + n ≤ capacity
     → stepsBack (cond (lists c (obey c k .answer)) 1 0 + n) (obey c k .kept) .machine ≡ stepsBack n k .machine
 unfolding obey
 one Command.End k g n l = keeping-on (says Answer.End (k .machine)) k refl n
@@ -94,7 +95,7 @@ one (Command.Member d) k g n l = listing-on (member d (k .machine)) k (member-st
 one (Command.Bad r) k g n l = keeping-on (refused r (k .machine)) k refl n
 
 more :
-    (cs : List Command) (k : Kept) (n : ℕ) → forward cs k ≡ true → steps cs k + n ≤ longest
+    (cs : List Command) (k : History) (n : ℕ) → forward cs k ≡ true → steps cs k + n ≤ capacity
     → stepsBack (steps cs k + n) (after cs k) .machine ≡ stepsBack n k .machine
 unfolding after steps forward
 more [] k n f l = ap (λ j. stepsBack j k .machine) (zero-add n)

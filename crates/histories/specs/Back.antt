@@ -6,12 +6,12 @@ use mathlib.Core.Path.{_≡_}
 use Rattle.answer.specs.declared.Answer.{Answer}
 use Rattle.answer.specs.Refused.{isRefused}
 use Rattle.command.specs.declared.Command.{Command}
-use Rattle.command.specs.Command.{isBack}
-use Rattle.journal.specs.Journal.{longest}
-use Rattle.execute.specs.Execute.{Kept, obey}
+use Rattle.command.specs.Command.{isSet, isBack}
+use Rattle.journal.specs.Journal.{capacity}
+use Rattle.execute.specs.Execute.{History, obey}
 
 -- MODEL S2: commands run one after another
-unfoldable pub after : List Command → Kept → Kept
+unfoldable pub after : List Command → History → History
 after [] k = k
 after (c ∷ cs) k = after cs (obey c k .kept)
 
@@ -28,19 +28,6 @@ isListed Command.Back = false
 isListed (Command.Member d) = true
 isListed (Command.Bad n) = false
 
--- MODEL H5: the command empties the list unless it is refused
-abbrev pub isSet : Command → Bool
-isSet Command.End = false
-isSet (Command.Set f v) = true
-isSet (Command.Level l) = false
-isSet (Command.Access w x) = false
-isSet (Command.Read o) = false
-isSet (Command.Write o x) = false
-isSet (Command.Tick p) = false
-isSet Command.Back = false
-isSet (Command.Member d) = false
-isSet (Command.Bad n) = false
-
 -- MODEL H2: the command, which answers a, is listed
 abbrev pub lists : Command → Answer → Bool
 lists c a = isListed c && not (isRefused a)
@@ -50,19 +37,19 @@ abbrev pub goesOn : Command → Answer → Bool
 goesOn c a = not (isBack c) && not (isSet c && not (isRefused a))
 
 -- MODEL H7: how many of the commands are listed
-unfoldable pub steps : List Command → Kept → ℕ
+unfoldable pub steps : List Command → History → ℕ
 steps [] k = 0
 steps (c ∷ cs) k =
     let o = obey c k in cond (lists c (o .answer)) 1 0 + steps cs (o .kept)
 
 -- MODEL H7: none of the commands is a step back or empties the list
-unfoldable pub forward : List Command → Kept → Bool
+unfoldable pub forward : List Command → History → Bool
 forward [] k = true
 forward (c ∷ cs) k =
     let o = obey c k in goesOn c (o .answer) && forward cs (o .kept)
 
 -- MODEL H7: so many steps back
-unfoldable pub stepsBack : ℕ → Kept → Kept
+unfoldable pub stepsBack : ℕ → History → History
 stepsBack zero k = k
 stepsBack (suc n) k = stepsBack n (obey Command.Back k .kept)
 
@@ -70,5 +57,5 @@ stepsBack (suc n) k = stepsBack n (obey Command.Back k .kept)
 -- back bring back the record before them
 abbrev pub ThereAndBack : Type 0
 ThereAndBack =
-    (cs : List Command) (k : Kept) → forward cs k ≡ true → steps cs k ≤ longest
+    (cs : List Command) (k : History) → forward cs k ≡ true → steps cs k ≤ capacity
     → stepsBack (steps cs k) (after cs k) .machine ≡ k .machine

@@ -7,13 +7,13 @@ use mathlib.Core.Path.{_≡_}
 use lib.ListN.{replicate}
 use Rattle.answer.specs.declared.Answer.{Answer}
 use Rattle.command.specs.declared.Command.{Command}
-use Rattle.execute.specs.Words.{keptBy}
-use Rattle.journal.specs.Journal.{longest}
+use Rattle.execute.specs.Words.{historyBy}
+use Rattle.journal.specs.Journal.{capacity}
 use Rattle.machine.specs.declared.Machine.{Machine}
 use Rattle.histories.specs.Back.{steps, forward}
 
--- MODEL H10: that a call for this command, from this record and these words of the undo list, may give this answer, and leave this
--- record and these words
+-- MODEL H10: that a call for this command, from this record and these words of the undo list, may give this answer, and leave
+-- this record and these words
 abbrev pub MayGive : Type 2
 MayGive = Command → Machine → List ℕ → Answer → Machine → List ℕ → Type 1
 
@@ -32,7 +32,7 @@ abbrev pub CallsThereAndBack : MayGive → Type 1
 CallsThereAndBack call =
     (cs : List Command) (m after back : Machine) (words words′ words″ : List ℕ)
     → Run call cs m words after words′
-    → forward cs (keptBy m words) ≡ true
-    → steps cs (keptBy m words) ≤ longest
-    → Run call (replicate (steps cs (keptBy m words)) Command.Back) after words′ back words″
+    → forward cs (historyBy m words) ≡ true
+    → steps cs (historyBy m words) ≤ capacity
+    → Run call (replicate (steps cs (historyBy m words)) Command.Back) after words′ back words″
     → back ≡ m

@@ -15,7 +15,7 @@ use Rattle.answer.specs.declared.Refusal.the-variants.{
 }
 use Rattle.command.specs.declared.Command.{Command}
 use Rattle.command.specs.declared.Command.the-variants.{Set, Level, Access, Read, Write, Tick, Back, Member}
-use Rattle.execute.specs.Execute.{Kept, obey}
+use Rattle.execute.specs.Execute.{History, obey}
 use Rattle.fields.specs.Set.{setAll}
 use Rattle.machine.specs.declared.Machine.{Machine}
 use Rattle.machine.specs.Machine.{withLevel}
@@ -39,7 +39,7 @@ pub record Result : Type 0 where
   pub listed : ℕ
 
 -- MODEL S2 and H11: the commands run, from a record and a list
-unfoldable pub perform : List Command → Kept → Result
+unfoldable pub perform : List Command → History → Result
 perform [] k = record { answers = []; machine = k .machine; listed = length (k .earlier) }
 perform (c ∷ cs) k =
     let o = obey c k in
@@ -88,23 +88,37 @@ backExamples =
     -- MODEL H1: a level comes back
     ∷ undoes [] 1 (Level 0 ∷ Back ∷ []) (Answer.Ok ∷ Answer.Ok ∷ [])
     -- MODEL H1: a counter that was written, with p5 and without it
-    ∷ undoes ((0x63, 0x123456789) ∷ []) 1 (Access 0xD51BE861 9 ∷ Back ∷ []) (Answer.Ok ∷ Answer.Ok ∷ [])
+    ∷ undoes ((0x63, 0x123456789) ∷ []) 1 (Access 0xD51BE861 9 ∷ Access 0xD53BE862 0 ∷ Back ∷ Back ∷ [])
+    (Answer.Ok ∷ gives 9 ∷ Answer.Ok ∷ Answer.Ok ∷ [])
     ∷ undoes ((0x01, 0) ∷ (0x02, 0) ∷ (0x63, 7) ∷ []) 1 (Access 0xD51BE861 9 ∷ Back ∷ []) (Answer.Ok ∷ Answer.Ok ∷ [])
     -- MODEL H1: PMSWINC of several counters, of which one wraps, two set flags and one has another event number
     ∷ undoes
     (countersOn ((0x60, 0xFFFFFFFF) ∷ (0x61, 0xFFFFFFFFFFFFFFFF) ∷ (0x62, 7) ∷ (0x43, 1) ∷ (0x63, 5) ∷ (0x37, 0x100000004) ∷ []))
     1
-    (Access 0xD51B9C81 0xF ∷ Back ∷ [])
-    (Answer.Ok ∷ Answer.Ok ∷ [])
+    (Access 0xD51B9C81 0xF ∷ Read 0xCC0 ∷ Access 0xD53BE822 0 ∷ Back ∷ Back ∷ Read 0xCC0 ∷ [])
+    (Answer.Ok ∷ Answer.Value 7 ∷ gives 0 ∷ Answer.Ok ∷ Answer.Ok ∷ Answer.Value 4 ∷ [])
     ∷ undoes (countersOn ((0x01, 0) ∷ (0x02, 0) ∷ (0x60, 0xFFFFFFFF) ∷ (0x61, 0) ∷ [])) 1
     (Access 0xD51B9C81 3 ∷ Access 0xD51B9C81 3 ∷ Back ∷ Back ∷ [])
     (Answer.Ok ∷ Answer.Ok ∷ Answer.Ok ∷ Answer.Ok ∷ [])
     -- MODEL H1: the instruction counter, PMSICR with its reserved bits, and the word at 0x838
     ∷ undoes ((0x03, 1) ∷ (0x7F, 0xFFFFFFFFFFFFFFFF) ∷ (0x34, 0x100000000) ∷ []) 2
-    (Access 0xD51B9401 9 ∷ Tick 0 ∷ Back ∷ Back ∷ Tick 0 ∷ Back ∷ [])
-    (Answer.Ok ∷ Answer.Ok ∷ Answer.Ok ∷ Answer.Ok ∷ Answer.Ok ∷ Answer.Ok ∷ [])
-    ∷ undoes ((0x80, 1) ∷ (0x8C, 0xFFFFFF0000000005) ∷ []) 2 (Access 0xD5189941 9 ∷ Back ∷ []) (Answer.Ok ∷ Answer.Ok ∷ [])
-    ∷ undoes ((0x80, 1) ∷ (0x84, 1) ∷ (0x85, 1) ∷ (0x8D, 6) ∷ []) 1 (Access 0xD5189941 9 ∷ Back ∷ []) (Answer.Ok ∷ Answer.Ok ∷ [])
+    (Access 0xD51B9401 9 ∷ Tick 0 ∷ Access 0xD53B9402 0 ∷ Back ∷ Back ∷ Back ∷ Tick 0 ∷ Access 0xD53B9402 0 ∷ Back ∷ Back ∷ [])
+    (Answer.Ok
+    ∷ Answer.Ok
+    ∷ gives 10
+    ∷ Answer.Ok
+    ∷ Answer.Ok
+    ∷ Answer.Ok
+    ∷ Answer.Ok
+    ∷ gives 0
+    ∷ Answer.Ok
+    ∷ Answer.Ok
+    ∷ [])
+    ∷ undoes ((0x80, 1) ∷ (0x8C, 0xFFFFFF0000000005) ∷ []) 2 (Access 0xD5189941 9 ∷ Access 0xD5389942 0 ∷ Back ∷ Back ∷ [])
+    (Answer.Ok ∷ gives 9 ∷ Answer.Ok ∷ Answer.Ok ∷ [])
+    ∷ undoes ((0x80, 1) ∷ (0x84, 1) ∷ (0x85, 1) ∷ (0x8D, 6) ∷ []) 1
+    (Access 0xD5189941 9 ∷ Access 0xD5389942 0 ∷ Back ∷ Back ∷ [])
+    (Answer.Ok ∷ gives 9 ∷ Answer.Ok ∷ Answer.Ok ∷ [])
     -- MODEL H1: a member that is selected, and one that counts
     ∷ undoes ((0x80, 1) ∷ (0x8B, 2) ∷ (0x83, 1) ∷ []) 1 (Member 0 ∷ Member 0 ∷ Back ∷ Back ∷ [])
     (Answer.Ok ∷ Answer.Sampled ∷ Answer.Ok ∷ Answer.Ok ∷ [])
@@ -148,7 +162,7 @@ backExamples =
       left = 0;
       listed = 0;
     }
-    -- MODEL H4: a step back is not listed, and one over the other commands are
+    -- MODEL H4: a step back is not listed: of three ticks, with a step back among them, two are left
     ∷ record {
       given = [];
       level = 1;

@@ -6,8 +6,8 @@ use Rattle.journal.specs.declared.Entry.{Entry}
 use Rattle.journal.specs.declared.Recalled.{Recalled}
 
 -- MODEL H3: how many commands are listed at most
-abbrev pub longest : ℕ
-longest = 64
+abbrev pub capacity : ℕ
+capacity = 64
 
 -- MODEL H9: the entry that three words stand for: field, level and tag in the first, then what the field held, and the overflow
 -- flags
@@ -38,7 +38,7 @@ listed (suc k) at f = f (before at) ∷ listed k (before at) f
 
 -- MODEL H9: the entries that the words stand for, the latest first
 unfoldable pub entries : List ℕ → List Entry
-entries words = listed (min (getD words 0 0) longest) (getD words 1 0 % 64) (entryAt words)
+entries words = listed (min (getD words 0 0) capacity) (getD words 1 0 % 64) (entryAt words)
 
 -- MODEL H1: the latest of the entries
 abbrev pub latest : List Entry → Recalled

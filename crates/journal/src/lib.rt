@@ -6,12 +6,9 @@ ghost use mathlib.Core.Path.{_≡_};
 ghost use mathlib.Core.List.{[], _∷_};
 ghost use Prim.Native.Nat.{ℕ, _+_, _/_, _%_, _^_, _<_, min};
 ghost use lib.ListN.{getD, length, take};
-ghost use Rattle.journal.specs.Journal.{entries, entryAt, listed, latest, rest, longest};
+ghost use Rattle.journal.specs.Journal.{entries, entryAt, listed, latest, rest, capacity};
 use undo::Change;
 use undo::Undo;
-
-// The words of a list.
-pub const WORDS: usize = 194;
 
 // What takes a command back, and a number of the caller's that goes with it.
 pub struct Entry {
@@ -27,7 +24,7 @@ pub enum Recalled {
 
 // How many entries are listed.
 fn used(list: &[u64; 194]) -> u64
-    ensures { λ r. ⌜ r ≡ min (getD (now (list .entry)) 0 0) longest ⌝ }
+    ensures { λ r. ⌜ r ≡ min (getD (now (list .entry)) 0 0) capacity ⌝ }
 {
     let n = list[0];
     if n < 64 { n } else { 64 }
@@ -35,7 +32,7 @@ fn used(list: &[u64; 194]) -> u64
 
 // How many are listed with one more.
 fn more(list: &[u64; 194]) -> u64
-    ensures { λ r. ⌜ r ≡ min (getD (now (list .entry)) 0 0 + 1) longest ⌝ }
+    ensures { λ r. ⌜ r ≡ min (getD (now (list .entry)) 0 0 + 1) capacity ⌝ }
 {
     let n = list[0];
     if n < 64 { n + 1 } else { 64 }
@@ -92,7 +89,7 @@ fn put(list: &mut [u64], at: usize, e: Entry)
 // The first two words: so many entries are listed, and the next will stand at this place.
 fn mark(list: &mut [u64], n: u64, at: usize)
     requires { ⌜ length (now list) ≡ 194 ⌝ }
-    ensures { λ r. ⌜ entries (now (list .exit)) ≡ listed (min n longest) (at % 64) (entryAt (now (list .entry))) ⌝ }
+    ensures { λ r. ⌜ entries (now (list .exit)) ≡ listed (min n capacity) (at % 64) (entryAt (now (list .entry))) ⌝ }
 {
     list[0] = n;
     list[1] = at as u64;
@@ -100,7 +97,7 @@ fn mark(list: &mut [u64], n: u64, at: usize)
 
 // MODEL H1, H3: one entry more, the latest; of 64 the oldest drops off.
 pub fn remember(list: &mut [u64; 194], e: Entry)
-    ensures { λ r. ⌜ entries (now (list .exit)) ≡ take longest (e ∷ entries (now (list .entry))) ⌝ }
+    ensures { λ r. ⌜ entries (now (list .exit)) ≡ take capacity (e ∷ entries (now (list .entry))) ⌝ }
 {
     let n = more(list);
     let at = next(list);

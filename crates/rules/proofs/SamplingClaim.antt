@@ -2,7 +2,7 @@
 -- them (Hidden.antt), and what is decided does not look at them.
 use Prim.Native.Nat.{ℕ}
 use mathlib.Core.Bool.{true, false, true≢false}
-use mathlib.Core.List.{List, [], _∷_}
+use mathlib.Core.List.{[], _∷_}
 use mathlib.Core.Path.{_≡_, refl, sym, _∙_, ap, ap₂, subst}
 use native.Mathlib.Omega.{arith}
 use borrow.Author.Tests.{eq-eqb, leb-true}
@@ -17,9 +17,9 @@ use Rattle.rules.specs.declared.Decision.{Decision}
 use Rattle.rules.specs.declared.Decision.the-variants.{Says, Read, Write, Add}
 use Rattle.rules.specs.declared.Place.the-variants.{Counter, Instructions, Interval, Nvmem}
 use Rattle.rules.specs.Apply.{apply}
-use Rattle.rules.specs.Step.{Access, decide, step, access, run}
+use Rattle.rules.specs.Step.{decide, step, access, run}
 use Rattle.rules.specs.Isolation.{fromLevels}
-use Rattle.rules.specs.SamplingClaim.{withoutSampling, SamplingKept, AlikeButSampling, SamplingUnseen}
+use Rattle.rules.specs.SamplingClaim.{withoutSampling, SamplingKept, SamplingUnseen}
 use Rattle.rules.proofs.Hidden.{sampling-hidden}
 use Rattle.rules.proofs.Touches.{touches}
 

@@ -9,10 +9,10 @@ use lib.ListN.{length, drop, length-drop}
 use Rattle.answer.specs.declared.Answer.{Answer}
 use Rattle.command.specs.Command.{commandOf, sizeAt, isLast}
 use Rattle.command.proofs.Sizes.{size-bounds}
-use Rattle.execute.specs.Execute.{Kept, obey}
+use Rattle.execute.specs.Execute.{History, obey}
 use Rattle.transcript.specs.Session.{answersFrom}
 
-one-more : (k : ℕ) (s : List ℕ) (r : Kept) → length s < k → answersFrom k s r ≡ answersFrom (suc k) s r
+one-more : (k : ℕ) (s : List ℕ) (r : History) → length s < k → answersFrom k s r ≡ answersFrom (suc k) s r
 unfolding answersFrom
 one-more zero s r h = let z : ⊥ = omega arith in absurd z
 one-more (suc k) s r h =
@@ -30,7 +30,7 @@ one-more (suc k) s r h =
     go false e rest = rest (omega (arith, size-bounds s e .0, size-bounds s e .1, length-drop (sizeAt s) s))
 
 -- a session of n bytes has the same answers with every bound above n
-pub fuel-enough : (j : ℕ) (s : List ℕ) (r : Kept) → answersFrom (suc (length s) + j) s r ≡ answersFrom (suc (length s)) s r
+pub fuel-enough : (j : ℕ) (s : List ℕ) (r : History) → answersFrom (suc (length s) + j) s r ≡ answersFrom (suc (length s)) s r
 fuel-enough zero s r = ap (λ k. answersFrom k s r) (add-zero (suc (length s)))
 fuel-enough (suc j) s r =
     ap (λ k. answersFrom k s r) (add-suc (suc (length s)) j)

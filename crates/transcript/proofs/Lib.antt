@@ -1,5 +1,4 @@
 -- What is proved of sessions.
-pub mod Ran
 pub mod Worked
 pub mod Running
 pub mod Room

@@ -1,23 +1,23 @@
--- A byte of input prints 16 bytes at most: a line has 32 or fewer, and a command that is not the last takes two bytes or more; but
--- for the step back, which takes one, and whose line has 16 or fewer.
-use Prim.Native.Nat.{ℕ, _+_, _*_, _^_, _<_, _≤_}
-use mathlib.Core.Bool.{Bool, true, false, true≢false}
+-- A byte of input prints 16 bytes at most: a line has 32 or fewer, and a command that is not the last takes two bytes or more;
+-- but for the step back, which takes one, and whose line has 16 or fewer.
+use Prim.Native.Nat.{ℕ, _+_, _*_, _<_, _≤_}
+use mathlib.Core.Bool.{Bool, true, false}
 use mathlib.Core.List.{List, [], _∷_, _++_}
-use mathlib.Core.Path.{_≡_, refl, sym, ap, subst}
+use mathlib.Core.Path.{_≡_, refl, sym, subst}
 use native.Mathlib.Omega.{arith}
 use lib.ListN.{length, drop, length-append}
 use Rattle.answer.specs.declared.Answer.{Answer}
 use Rattle.answer.specs.declared.Refusal.the-variants.{NothingToUndo}
 use Rattle.command.specs.declared.Command.{Command}
-use Rattle.command.specs.Command.{commandOf, sizeAt, isLast, isBack}
+use Rattle.command.specs.Command.{sizeAt, isLast, isBack}
 use Rattle.command.proofs.Sizes.{size-bounds, two-or-more}
-use Rattle.execute.specs.Execute.{Kept, backFrom, obey}
+use Rattle.execute.specs.Execute.{History, backFrom, obey}
 use Rattle.machine.specs.declared.Machine.{Machine}
 use Rattle.line.specs.Line.{textOf, lineOf}
 use Rattle.text.specs.Text.{bytes, decimal}
 use Rattle.text.specs.Written.{Written}
 use Rattle.text.proofs.Digits.{decimal-length}
-use Rattle.transcript.proofs.Running.{commandAt, outcomeAt, lineAt, Running}
+use Rattle.transcript.proofs.Running.{commandAt, lineAt, Running}
 
 -- a line with a text of ten bytes or fewer, at a position of four digits or fewer
 short-line : (p : ℕ) (a : Answer) → p < 10000 → length (textOf a) ≤ 10 → length (lineOf p a) ≤ 16
@@ -34,7 +34,7 @@ short-line p a h t =
     )
 
 -- the line of a step back
-back-line : (p : ℕ) (k : Kept) → p < 10000 → length (lineOf p (obey Command.Back k .answer)) ≤ 16
+back-line : (p : ℕ) (k : History) → p < 10000 → length (lineOf p (obey Command.Back k .answer)) ≤ 16
 unfolding obey textOf decimal
 back-line p k h = go (k .earlier)
   where
@@ -54,7 +54,7 @@ is-back Command.Back e = refl
 is-back (Command.Member d) e = cc
 is-back (Command.Bad n) e = cc
 
-module _ {s out₀ out : List ℕ} {m : Kept} {at end p : ℕ} (r : Running s out₀ out m at end p) where
+module _ {s out₀ out : List ℕ} {m : History} {at end p : ℕ} (r : Running s out₀ out m at end p) where
   -- the room that a line takes is that of the bytes of its command
   pub line-fits :
       {out′ : List ℕ} {end′ : ℕ}
@@ -69,5 +69,5 @@ module _ {s out₀ out : List ℕ} {m : Kept} {at end p : ℕ} (r : Running s ou
       go true k =
           let here = is-back (commandAt s at) k in
           let fits = back-line p m (omega (arith, r .counted, r .within, r .limit)) in
-          let line : length (lineAt s m at p) ≤ 16 = subst (λ (c : Command). length (lineOf p (obey c m .answer)) ≤ 16) (sym here) fits in
+          let line = subst (λ (c : Command). length (lineOf p (obey c m .answer)) ≤ 16) (sym here) fits in
           omega (arith, w .behind, line, size-bounds (drop at s) e .0)

@@ -11,13 +11,13 @@ use Rattle.command.specs.declared.Command.{Command}
 use Rattle.command.specs.Command.{commandOf, sizeAt, isLast}
 use Rattle.command.proofs.Sizes.{size-bounds}
 use Rattle.line.specs.Line.{lineOf}
-use Rattle.execute.specs.Execute.{Kept, Obeyed, begun, obey}
+use Rattle.execute.specs.Execute.{History, Response, begun, obey}
 use Rattle.text.specs.Written.{Written}
 use Rattle.text.proofs.Sets.{sets-rest}
 use Rattle.transcript.specs.Session.{answersFrom, linesFrom, answersOf, longest, room}
 
 -- the lines of the commands from a place on, where the last has a line and the others have one and go on
-module _ (k : ℕ) (t : List ℕ) (m : Kept) (p : ℕ) where
+module _ (k : ℕ) (t : List ℕ) (m : History) (p : ℕ) where
   lines-last :
       isLast (commandOf t) ≡ true → linesFrom p (answersFrom (suc k) t m) ≡ lineOf p (obey (commandOf t) m .answer)
   unfolding linesFrom answersFrom
@@ -35,18 +35,18 @@ module _ (k : ℕ) (t : List ℕ) (m : Kept) (p : ℕ) where
 abbrev pub commandAt : List ℕ → ℕ → Command
 commandAt s at = commandOf (drop at s)
 
-abbrev pub outcomeAt : List ℕ → Kept → ℕ → Obeyed
+abbrev pub outcomeAt : List ℕ → History → ℕ → Response
 outcomeAt s m at = obey (commandAt s at) m
 
-abbrev pub lineAt : List ℕ → Kept → ℕ → ℕ → List ℕ
+abbrev pub lineAt : List ℕ → History → ℕ → ℕ → List ℕ
 lineAt s m at p = lineOf p (outcomeAt s m at .answer)
 
 -- the lines that remain
-pub remaining : List ℕ → Kept → ℕ → ℕ → List ℕ
+pub remaining : List ℕ → History → ℕ → ℕ → List ℕ
 remaining s m at p = linesFrom p (answersFrom (length s + 2 - p) (drop at s) m)
 
 -- what the loop keeps
-pub record Running (s out₀ out : List ℕ) (m : Kept) (at end p : ℕ) : Type 0 where
+pub record Running (s out₀ out : List ℕ) (m : History) (at end p : ℕ) : Type 0 where
   -- the session is not too long, and the place is one of its places
   pub limit : length s ≤ longest
   pub within : at ≤ length s
@@ -60,14 +60,14 @@ pub record Running (s out₀ out : List ℕ) (m : Kept) (at end p : ℕ) : Type 
   pub remains : sets out₀ 0 (linesFrom 1 (answersOf s)) ≡ sets out end (remaining s m at p)
   pub remains-length : end + length (remaining s m at p) ≡ length (linesFrom 1 (answersOf s))
 
-start-remaining : (s : List ℕ) (m : Kept) → m ≡ begun → remaining s m 0 1 ≡ linesFrom 1 (answersOf s)
+start-remaining : (s : List ℕ) (m : History) → m ≡ begun → remaining s m 0 1 ≡ linesFrom 1 (answersOf s)
 unfolding remaining answersOf
 start-remaining s m e =
     let n : length s + 2 - 1 ≡ suc (length s) = omega arith in
     λ i. linesFrom 1 (answersFrom (n i) s (e i))
 
 pub running-start :
-    {s out : List ℕ} {m : Kept} → m ≡ begun → length s ≤ longest → room ≤ length out → Running s out out m 0 0 1
+    {s out : List ℕ} {m : History} → m ≡ begun → length s ≤ longest → room ≤ length out → Running s out out m 0 0 1
 running-start {s} {out} {m} e h k =
     record {
       limit = h;
@@ -80,7 +80,7 @@ running-start {s} {out} {m} e h k =
       remains-length = omega (arith, ap length (start-remaining s m e));
     }
 
-module _ {s out₀ out : List ℕ} {m : Kept} {at end p : ℕ} (r : Running s out₀ out m at end p) where
+module _ {s out₀ out : List ℕ} {m : History} {at end p : ℕ} (r : Running s out₀ out m at end p) where
   -- the fuel of the definition is not used up
   fuel : length s + 2 - p ≡ suc (length s + 2 - (p + 1))
   fuel = omega (arith, r .within, r .first, r .counted)

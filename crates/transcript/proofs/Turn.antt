@@ -10,7 +10,7 @@ use Rattle.command.specs.declared.Command.{Command}
 use Rattle.command.specs.Command.{commandOf, sizeAt, isLast}
 use Rattle.command.proofs.Sizes.{size-bounds}
 use Rattle.line.specs.Line.{lineOf}
-use Rattle.execute.specs.Execute.{Kept, Obeyed, obey}
+use Rattle.execute.specs.Execute.{History, Response, obey}
 use Rattle.text.specs.Written.{Written}
 use Rattle.transcript.specs.Session.{linesFrom, answersOf}
 use Rattle.transcript.proofs.Room.{line-fits}
@@ -22,7 +22,7 @@ part-all s at = take-all (length s - at) (drop at s) (simp length-drop (omega ar
 
 -- what the turn finds at the front of the rest: the command c, its size n, and whether it is the last
 module _
-    {s out₀ out : List ℕ} {m : Kept} {at end p : ℕ} (r : Running s out₀ out m at end p)
+    {s out₀ out : List ℕ} {m : History} {at end p : ℕ} (r : Running s out₀ out m at end p)
     {c : Command} (here : c ≡ commandOf (take (length s - at) (drop at s)))
     {n : ℕ} (size : n ≡ sizeAt (take (length s - at) (drop at s)))
     {b : Bool} (tested : b ≡ isLast c) where
@@ -40,17 +40,18 @@ module _
 
   -- what it then does: the outcome o of the command, and the line of its answer
   module _
-      {o : Obeyed} (ran : o ≡ obey c m)
+      {o : Response} (ran : o ≡ obey c m)
       {out′ : List ℕ} {end′ : ℕ} (w : Written out end (lineOf p (o .answer)) out′ end′) where
     outcome-here : o ≡ outcomeAt s m at
     outcome-here = ran ∙ ap (λ d. obey d m) command-here
 
     written-here : Written out end (lineAt s m at p) out′ end′
-    written-here = subst (λ (a : Obeyed). Written out end (lineOf p (a .answer)) out′ end′) outcome-here w
+    written-here = subst (λ (a : Response). Written out end (lineOf p (a .answer)) out′ end′) outcome-here w
 
     pub turn-end : b ≡ true → Written out₀ 0 (linesFrom 1 (answersOf s)) out′ end′
     turn-end t = running-end r written-here (last-here true t)
 
     pub turn-on : end′ ≤ end + 32 → b ≡ false → Running s out₀ out′ (o .kept) (at + n) end′ (p + 1)
     turn-on short t =
-        rw (outcome-here, size-here) (running-on r written-here (line-fits r written-here short (last-here false t)) (last-here false t))
+        let last = last-here false t in
+        rw (outcome-here, size-here) (running-on r written-here (line-fits r written-here short last) last)

@@ -8,12 +8,12 @@ use Rattle.answer.specs.declared.Answer.{Answer}
 use Rattle.answer.specs.declared.Refusal.the-variants.{SessionTooLong}
 use Rattle.transcript.specs.declared.Output.{Output}
 use Rattle.command.specs.Command.{commandOf, sizeAt, isLast}
-use Rattle.execute.specs.Execute.{Kept, begun, obey}
+use Rattle.execute.specs.Execute.{History, begun, obey}
 use Rattle.line.specs.Line.{lineOf}
 
--- MODEL S2, S4 and V2: the answers of the commands that the bytes hold, from a record and list on, as far as reading goes. The number
--- bounds how many commands are read: a command takes a byte or more
-unfoldable pub answersFrom : ℕ → List ℕ → Kept → List Answer
+-- MODEL S2, S4 and V2: the answers of the commands that the bytes hold, from a record and list on, as far as reading goes. The
+-- number bounds how many commands are read: a command takes a byte or more
+unfoldable pub answersFrom : ℕ → List ℕ → History → List Answer
 answersFrom zero s k = []
 answersFrom (suc n) s k =
     let c = commandOf s in
@@ -39,8 +39,8 @@ unfoldable pub outputOf : List ℕ → List ℕ
 outputOf s = cond (ltb longest (length s)) (lineOf 0 (Answer.Refused SessionTooLong)) (linesFrom 1 (answersOf s))
 
 -- MODEL X1: the bytes that any session's output fits into: a line has at most 32 bytes, and a command that is not the last
--- takes 2 or more of at most 4,096, but for the step back, whose line has at most 16; so a byte of input prints 16 at most, and the
--- last line has room with some to spare
+-- takes 2 or more of at most 4,096, but for the step back, whose line has at most 16; so a byte of input prints 16 at most,
+-- and the last line has room with some to spare
 abbrev pub room : ℕ
 room = 16 * longest + 64
 

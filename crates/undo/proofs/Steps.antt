@@ -8,7 +8,7 @@ use native.Mathlib.Omega.{arith}
 use borrow.Author.Tests.{leb-false}
 use lib.Dec.{leb}
 use lib.ListN.{getD}
-use Rattle.answer.proofs.Choice.{either}
+use Rattle.bits.proofs.Choice.{either}
 use Rattle.machine.specs.declared.Machine.{Machine}
 use Rattle.machine.proofs.Bools.{chosen, or-left, or-right}
 use Rattle.rules.specs.declared.Decision.{Decision}

@@ -63,7 +63,7 @@ fn value_at(counters: &[u64], v: Values, place: Place) -> u64
 }
 
 // What is kept of a write to a place: its field, and what it holds before.
-pub fn held(counters: &[u64], v: Values, place: Place) -> Change
+pub fn of_place(counters: &[u64], v: Values, place: Place) -> Change
     ensures { λ c. ⌜ HeldAt place (now (counters .entry)) v c ⌝ }
 {
     Change {
@@ -73,7 +73,7 @@ pub fn held(counters: &[u64], v: Values, place: Place) -> Change
 }
 
 // What is kept of increments by a mask.
-pub fn incremented(mask: u64) -> Change
+pub fn of_increments(mask: u64) -> Change
     ensures { λ c. ⌜ c ≡ held increments mask ⌝ }
 {
     Change {

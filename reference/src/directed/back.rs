@@ -91,7 +91,8 @@ pub(super) fn over(rows: &[Row]) -> Vec<Session> {
         step(&mut script);
         see(&mut script);
         script.back(2);
-        Session::new(format!("back-over-{name}"), script.finish())
+        let bytes = if given.contains(&(N, 31)) { script.finish_all() } else { script.finish() };
+        Session::new(format!("back-over-{name}"), bytes)
     };
     rows.iter().map(session).collect()
 }

@@ -92,7 +92,7 @@ const SWINC: [Row; 18] = [
     ("swinc-xzr", &[(LEVEL, 3)], |s| s.access(PMSWINC | 31, 0x1F)),
 ];
 
-/// PMSWINC of all 31 counters, each at its carry.
+/// PMSWINC of all 31 counters, some of them at a carry.
 const ALL: [Row; 1] = [(
     "swinc-every-counter",
     &[

@@ -26,15 +26,15 @@ returns-3 : tie.Need-returns-3
 unfolding apply
 returns-3 c =
     let at-put = c .before .before in
-    let at-held = at-put .before .before in
-    let at-d3 = at-held .before .before .before in
+    let at-of-place = at-put .before .before in
+    let at-d3 = at-of-place .before .before .before in
     let at-start = at-d3 .before .before .before .before in
     λ l. simp (at-d3 .d3 .given .1)
     (record {
       answer = refl;
       values = at-put .put .ensures l _ .1;
       counters = at-put .put .ensures l _ .0;
-      change = at-held .held .ensures l (at-start .args .s) (at-start .args .events .now);
+      change = at-of-place .of-place .ensures l (at-start .args .s) (at-start .args .events .now);
     })
 
 returns-4 : tie.Need-returns-4
@@ -47,7 +47,7 @@ returns-4 c =
       answer = refl;
       values = simp (at-increment .increment .ensures .0);
       counters = at-increment .increment .ensures .1;
-      change = c .incremented .ensures;
+      change = c .of-increments .ensures;
     })
 
 pub apply-spec : {M : Type 1} → statement M

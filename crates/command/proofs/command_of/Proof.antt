@@ -20,7 +20,9 @@ returns-3 : tie.Need-returns-3
 returns-3 c =
     let at-if2 = c .before .before in
     let at-start = at-if2 .before .before .before .before in
-    sym (front-cut (at-start .args .t .now) (omega arith) (le-ltb 0x08 _ (at-if2 .if2 .left)) (omega (arith, c .before .operand-bytes .ensures)))
+    sym
+    (front-cut (at-start .args .t .now) (omega arith) (le-ltb 0x08 _ (at-if2 .if2 .left))
+    (omega (arith, c .before .operand-bytes .ensures)))
 
 returns-4 : tie.Need-returns-4
 returns-4 c =

@@ -1,12 +1,12 @@
 -- `counters::decrement` meets its contract: its loop keeps the invariant, which at the end says the definition.
 use Prim.Native.Nat.{_≤_, _-_, _/_, _^_}
-use mathlib.Core.Path.{_≡_, refl, _∙_}
+use mathlib.Core.Path.{_≡_, refl, sym, _∙_}
 use native.Mathlib.Omega.{arith}
 use lib.ListN.{length, length-set}
 use Rattle.rules.proofs.Sweep.{sweep}
 use Rattle.rules.specs.Overflow.{width}
 use Rattle.counters.specs.Decremented.{minusOne, decremented}
-use Rattle.counters.proofs.Turns.{half, turn, done-all}
+use Rattle.counters.proofs.Turns.{half, turn, done-early, done-all}
 use Rattle.counters.proofs.decrement.Statement.{statement}
 use Rattle.counters.proofs.decrement.Tie as tie
 
@@ -22,6 +22,20 @@ abbrev μ-loop : tie.MeasureT-loop
 
 loop-holds : tie.Need-loop-holds Inv-loop μ-loop
 loop-holds c = (omega arith, refl, refl, omega arith)
+
+same-length : tie.Need-same-length Inv-loop μ-loop
+same-length c = c .before .before .loop .inv .1
+
+returns : tie.Need-returns Inv-loop μ-loop
+unfolding decremented
+returns c =
+    let at-loop = c .before .before in
+    let args = at-loop .before .before .before .args in
+    let take = decremented (args .p5) (args .events .now) (args .mask) in
+    let one = minusOne (width (args .p5)) in
+    let inv = at-loop .loop .inv in
+    let none = sym (c .if1 .taken) ∙ inv .3 in
+    inv .2 ∙ done-early take one (args .events .now) (args .mask) (λ m y. refl) _ (at-loop .loop .i) none
 
 mul-y : tie.Need-mul-y Inv-loop μ-loop
 mul-y c = omega arith
@@ -45,7 +59,7 @@ loop-again : tie.Need-loop-again Inv-loop μ-loop
 unfolding decremented
 loop-again c =
     let at-event = c .before .before in
-    let at-loop = at-event .before .before in
+    let at-loop = at-event .before .before .before in
     let args = at-loop .before .before .before .args in
     let take = decremented (args .p5) (args .events .now) (args .mask) in
     let one = minusOne (width (args .p5)) in
@@ -59,12 +73,12 @@ loop-again c =
       half _ i rest (inv .3),
     )
 
-same-length : tie.Need-same-length Inv-loop μ-loop
-same-length c = c .before .loop .inv .1
+same-length-2 : tie.Need-same-length-2 Inv-loop μ-loop
+same-length-2 c = c .before .loop .inv .1
 
-returns : tie.Need-returns Inv-loop μ-loop
+returns-2 : tie.Need-returns-2 Inv-loop μ-loop
 unfolding decremented
-returns c =
+returns-2 c =
     let at-loop = c .before in
     let args = at-loop .before .before .before .args in
     let take = decremented (args .p5) (args .events .now) (args .mask) in
@@ -79,6 +93,8 @@ decrement-spec =
     Inv-loop
     μ-loop
     loop-holds
+    same-length
+    returns
     (λ c κs. tt)
     mul-y
     slice-read-y
@@ -88,5 +104,5 @@ decrement-spec =
     add-i
     loop-less
     loop-again
-    same-length
-    returns)
+    same-length-2
+    returns-2)

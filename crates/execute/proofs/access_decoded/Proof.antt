@@ -13,7 +13,7 @@ returns c =
     let lent = at-lent-decoded .lent-decoded .ensures in
     record {
       lent = lent;
-      listed = access-listed (args .i) (args .x) m (at-typed .typed .ensures) lent (args .list .now) _ (c .note .ensures);
+      listed = access-listed (args .i) (args .x) m (at-typed .typed .ensures) lent (args .list .now) _ 0 (c .note .ensures);
     }
 
 pub access-decoded-spec : {M : Type 1} → statement M

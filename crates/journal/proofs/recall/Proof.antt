@@ -5,7 +5,7 @@ use mathlib.Core.Path.{_≡_, sym, _∙_, ap, ap₂}
 use native.Mathlib.Omega.{arith}
 use lib.ListN.{getD}
 use Rattle.journal.specs.declared.Recalled.{Recalled}
-use Rattle.journal.specs.Journal.{entryAt, before, listed, entries, latest, rest, longest}
+use Rattle.journal.specs.Journal.{entryAt, before, listed, entries, latest, rest, capacity}
 use Rattle.journal.proofs.Ring.{first-listed}
 use Rattle.journal.proofs.recall.Statement.{statement}
 use Rattle.journal.proofs.recall.Tie as tie
@@ -22,10 +22,10 @@ returns-2 c =
     let at-if1 = at-next .before .before in
     let at-used = at-if1 .before in
     let l = at-used .before .before .args .list .now in
-    let n = min (getD l 0 0) longest in
+    let n = min (getD l 0 0) capacity in
     let at = getD l 1 0 % 64 in
     let some : 0 < n = omega (arith, at-used .used .ensures, at-if1 .if1 .left) in
-    let count : min (at-used .used .result - 1) longest ≡ n - 1 = omega (arith, at-used .used .ensures) in
+    let count : min (at-used .used .result - 1) capacity ≡ n - 1 = omega (arith, at-used .used .ensures) in
     let place : (at-next .next .result + 63) % 64 ≡ before at = omega (arith, at-next .next .ensures) in
     let around : (at-next .next .result + 63) % 64 % 64 ≡ before at = omega (arith, at-next .next .ensures) in
     let parts = first-listed n at (entryAt l) some in (

@@ -10,11 +10,11 @@ use lib.ListN.{length}
 use Rattle.machine.specs.declared.Machine.{Machine}
 use Rattle.machine.specs.Machine.{withCounters}
 use Rattle.machine.specs.Outcome.{says}
-use Rattle.execute.specs.Execute.{obey}
-use Rattle.execute.specs.Words.{earlierBy, keptBy, obeyedBy}
+use Rattle.execute.specs.Execute.{History, obey}
+use Rattle.execute.specs.Words.{earlierBy, historyBy, responseBy}
 use Rattle.execute.proofs.Tags.{no-access}
 use Rattle.journal.specs.Journal.{listed, entries}
-use Rattle.transcript.proofs.Ran.{access-ran, other-ran}
+use Rattle.execute.proofs.Ran.{access-ran, other-ran}
 use Rattle.transcript.proofs.Running.{Running, running-start}
 use Rattle.transcript.proofs.Turn.{turn-end, turn-size, turn-on}
 use Rattle.transcript.proofs.write_lines.Statement.{statement}
@@ -22,16 +22,20 @@ use Rattle.transcript.proofs.write_lines.Tie as tie
 
 abbrev Inv-loop : tie.InvT-loop
 Inv-loop input out₀ registers m₀ counters₀ list₀ at₀ end₀ position₀ out m counters list at end position =
-    Running input out₀ out (keptBy (withCounters counters m) list) at end position
+    Running input out₀ out (historyBy (withCounters counters m) list) at end position
 
 abbrev μ-loop : tie.MeasureT-loop
 μ-loop input out₀ registers m₀ counters₀ list₀ at₀ end₀ position₀ out m counters list at end position = length input - at
+
+-- nothing is listed
+abbrev beginning : Machine → History
+beginning m = record { machine = m; earlier = [] }
 
 loop-holds : tie.Need-loop-holds Inv-loop μ-loop
 unfolding entries listed earlierBy
 loop-holds c =
     let at-start = c .before .before .before .before .before in
-    running-start (ap (λ (m : Machine). record { machine = m; earlier = [] }) (c .before .fresh .ensures)) (at-start .pre .0) (at-start .pre .1)
+    running-start (ap beginning (c .before .fresh .ensures)) (at-start .pre .0) (at-start .pre .1)
 
 sub-command-of : tie.Need-sub-command-of Inv-loop μ-loop
 sub-command-of c = omega (arith, c .loop .inv .within)
@@ -88,8 +92,8 @@ returns c =
     let words = at-loop .loop .list in
     let ran =
     ⊎-elim {C =
-    obeyedBy (says (at-match .match .a) (withCounters (at-match .match .counters) (at-match .match .m))) (at-match .match .list)
-    ≡ obey (at-match .match .c) (keptBy m words)}
+    responseBy (says (at-match .match .a) (withCounters (at-match .match .counters) (at-match .match .m))) (at-match .match .list)
+    ≡ obey (at-match .match .c) (historyBy m words)}
     (λ w.
     access-ran _ m words _ _ _ _ _ _ (w .11 .result) _ _ (w .16) (w .7 .ensures) (w .11 .ensures) (w .17)
     (ap₂ withCounters (w .14) (w .13)) (w .15))
@@ -114,8 +118,8 @@ loop-again c =
     let words = at-loop .loop .list in
     let ran =
     ⊎-elim {C =
-    obeyedBy (says (at-match .match .a) (withCounters (at-match .match .counters) (at-match .match .m))) (at-match .match .list)
-    ≡ obey (at-match .match .c) (keptBy m words)}
+    responseBy (says (at-match .match .a) (withCounters (at-match .match .counters) (at-match .match .m))) (at-match .match .list)
+    ≡ obey (at-match .match .c) (historyBy m words)}
     (λ w.
     access-ran _ m words _ _ _ _ _ _ (w .11 .result) _ _ (w .16) (w .7 .ensures) (w .11 .ensures) (w .17)
     (ap₂ withCounters (w .14) (w .13)) (w .15))

@@ -1,5 +1,4 @@
 -- `undo::typed` meets its contract: the elements of a slice are values of their type.
-use borrow.Author.Needs.{needs}
 use Rattle.undo.proofs.typed.Statement.{statement}
 use Rattle.undo.proofs.typed.Tie as tie
 

@@ -1,13 +1,13 @@
 -- A command run by the code, an access with the counters lent or another command by value, does what the definition says.
 use Prim.Native.Nat.{ℕ}
 use mathlib.Core.List.{List}
-use mathlib.Core.Path.{_≡_, sym, _∙_, ap, ap₂}
+use mathlib.Core.Path.{_≡_, sym, _∙_, ap}
 use Rattle.access.specs.declared.Said.{Said}
 use Rattle.access.proofs.Decoded.{by-word, whole-by-word}
 use Rattle.answer.specs.declared.Answer.{Answer}
 use Rattle.command.specs.declared.Command.{Command}
 use Rattle.execute.specs.Execute.{listing, obey}
-use Rattle.execute.specs.Words.{keptBy, obeyedBy, Accessed}
+use Rattle.execute.specs.Words.{historyBy, responseBy, Accessed}
 use Rattle.machine.specs.declared.Machine.{Machine}
 use Rattle.machine.specs.declared.Outcome.{Outcome}
 use Rattle.machine.specs.Machine.{machineOf}
@@ -24,21 +24,21 @@ module _ (c : Command) (m : Machine) (words : List ℕ) (a : Answer) (next : Mac
       → a ≡ said .answer
       → next ≡ machineOf (m .level) (m .settings) (m .events) counters (said .values)
       → words′ ≡ left
-      → obeyedBy (says a next) words′ ≡ obey c (keptBy m words)
+      → responseBy (says a next) words′ ≡ obey c (historyBy m words)
   unfolding obey
   access-ran w x i said counters left p e l q r t =
       let ran = whole-by-word i w x m e said counters (l .lent) in
       let same = ap (λ o. o .0) (by-word i w x m e) in
-      (λ k. obeyedBy (says (q k) (r k)) (t k))
-      ∙ ap (λ o. obeyedBy o left) (ran ∙ sym same)
+      (λ k. responseBy (says (q k) (r k)) (t k))
+      ∙ ap (λ o. responseBy o left) (ran ∙ sym same)
       ∙ l .listed
-      ∙ ap (λ o. listing o (keptBy m words)) same
-      ∙ sym (ap (λ d. obey d (keptBy m words)) p)
+      ∙ ap (λ o. listing o (historyBy m words)) same
+      ∙ sym (ap (λ d. obey d (historyBy m words)) p)
 
   -- of another command, by its outcome
   pub other-ran :
-      (d : Command) (o : Outcome) (left : List ℕ) → c ≡ d → obeyedBy o left ≡ obey d (keptBy m words) → a ≡ o .answer
+      (d : Command) (o : Outcome) (left : List ℕ) → c ≡ d → responseBy o left ≡ obey d (historyBy m words) → a ≡ o .answer
       → next ≡ o .machine → words′ ≡ left
-      → obeyedBy (says a next) words′ ≡ obey c (keptBy m words)
+      → responseBy (says a next) words′ ≡ obey c (historyBy m words)
   other-ran d o left p e q r t =
-      (λ k. obeyedBy (says (q k) (r k)) (t k)) ∙ e ∙ sym (ap (λ d. obey d (keptBy m words)) p)
+      (λ k. responseBy (says (q k) (r k)) (t k)) ∙ e ∙ sym (ap (λ d. obey d (historyBy m words)) p)

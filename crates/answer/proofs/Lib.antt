@@ -1,2 +1,0 @@
--- Laws of a choice by a test.
-pub mod Choice

@@ -1,9 +1,0 @@
--- `undo::held` meets its contract, by the contracts of what it calls.
-use Rattle.undo.proofs.held.Statement.{statement}
-use Rattle.undo.proofs.held.Tie as tie
-
-returns : tie.Need-returns
-returns c = λ l s e. simp (c .before .field-of .ensures, c .value-at .ensures l s e)
-
-pub held-spec : {M : Type 1} → statement M
-held-spec = tie.close (tie.spec (λ c κs. tt) (λ c κs. tt) returns)
