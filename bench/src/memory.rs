@@ -20,10 +20,10 @@ fn resident(child: &Child) -> io::Result<String> {
     Ok(line.unwrap_or(" unknown").trim().to_string())
 }
 
-/// Runs a program; its largest resident set and how many bytes it writes.
+/// Runs a program on the session with the longest output, steps back with nothing listed; its largest resident set and how many
+/// bytes it writes.
 fn run(command: &[String]) -> io::Result<(String, usize)> {
-    let mut input = [4, 0x00, 0x0C].repeat(1365);
-    input.push(0);
+    let input = [7; 4096];
     let mut child = Command::new(&command[0]).args(&command[1..]).stdin(Stdio::piped()).stdout(Stdio::piped()).spawn()?;
     let mut stdout = child.stdout.take().expect("a pipe");
     if unsafe { fcntl(stdout.as_raw_fd(), SET_PIPE_SIZE, 4096) } < 0 {

@@ -31,13 +31,12 @@ fn no_bytes_and_too_many() {
     assert_eq!(lines(&vec![0; 1 << 20]), "0 refused 6\n");
 }
 
+/// Steps back with nothing listed: each byte is a command, and most lines have 16 bytes.
 #[test]
 fn the_longest_output() {
-    let mut input = [4, 0x00, 0x0C].repeat(1365);
-    input.push(0);
-    let text = lines(&input);
-    assert_eq!(text.len(), 37_122);
-    assert!(text.ends_with("1365 value 0000000000000000\n1366 end\n"));
+    let text = lines(&[7; 4096]);
+    assert_eq!(text.len(), 64_444);
+    assert!(text.ends_with("\n4096 refused 18\n4097 refused 2\n"));
 }
 
 /// A set command.
@@ -57,4 +56,14 @@ fn a_member_is_sampled() {
     let mut input = [set(0x80, 1), set(0x8B, 2), set(0x83, 1)].concat();
     input.extend([8, 0, 8, 0, 8, 0, 0]);
     assert!(lines(&input).ends_with("\n4 ok\n5 sampled\n6 ok\n7 end\n"));
+}
+
+#[test]
+fn a_step_is_taken_back() {
+    let mut input = [set(0x00, 1), set(0x0C, 1), set(0x60, 42)].concat();
+    let read = [3, 0x02, 0xE8, 0x3B, 0xD5, 0, 0, 0, 0, 0, 0, 0, 0];
+    input.extend([2, 1, 3, 0x01, 0xE8, 0x1B, 0xD5, 7, 0, 0, 0, 0, 0, 0, 0, 7]);
+    input.extend(read);
+    input.extend([7, 7, 7, 0]);
+    assert!(lines(&input).ends_with("6 ok\n7 value 000000000000002A 2\n8 ok\n9 ok\n10 refused 18\n11 end\n"));
 }

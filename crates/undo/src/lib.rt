@@ -22,9 +22,10 @@ pub struct Undo {
     pub ovs: u64,
 }
 
-// The numbers beside those of fields: no field, and the event counters that a mask names.
+// The number that stands for no field.
 pub const NOTHING: u8 = 0xFF;
 
+// The number that stands for the event counters that a mask names.
 pub const INCREMENTS: u8 = 0xFE;
 
 // No field was changed.
