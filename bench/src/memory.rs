@@ -1,6 +1,6 @@
 //! What a program holds resident at most, on the session with the longest
-//! output: 1,365 external reads. It is looked at while the program waits in the
-//! middle of its output for a pipe that holds 4,096 bytes.
+//! output: 4,096 steps back with nothing listed. It is looked at while the
+//! program waits in the middle of its output for a pipe that holds 4,096 bytes.
 
 use std::io::{self, Read, Write};
 use std::os::unix::io::AsRawFd;
@@ -20,8 +20,7 @@ fn resident(child: &Child) -> io::Result<String> {
     Ok(line.unwrap_or(" unknown").trim().to_string())
 }
 
-/// Runs a program on the session with the longest output, steps back with nothing listed; its largest resident set and how many
-/// bytes it writes.
+/// Runs a program on the session with the longest output: its largest resident set, and how many bytes it writes.
 fn run(command: &[String]) -> io::Result<(String, usize)> {
     let input = [7; 4096];
     let mut child = Command::new(&command[0]).args(&command[1..]).stdin(Stdio::piped()).stdout(Stdio::piped()).spawn()?;

@@ -45,28 +45,24 @@ any = record { lifetime = []; ptr = (0, 0); name = 0 }
 abbrev pub OfStep : ℕ → ℕ → Machine → Answer → Machine → Type 0
 OfStep w x r answer after = (answer ≡ step w x r .answer) × (after ≡ step w x r .machine)
 
--- a call can give no answer and no record but those, and can give those
+-- a call can give no answer and no record but those
+abbrev pub Only : MayGive → Type 1
+Only call =
+    (w x : ℕ) (r : Machine) (answer : Answer) (after : Machine)
+    → call w x r answer after
+    → ∥ OfStep w x r answer after ∥₁
+
+-- and can give those
 pub record Exact (call : MayGive) : Type 1 where
-  pub only :
-      (w x : ℕ) (r : Machine) (answer : Answer) (after : Machine)
-      → call w x r answer after
-      → ∥ OfStep w x r answer after ∥₁
+  pub only : Only call
   pub may : (w x : ℕ) (r : Machine) → call w x r (step w x r .answer) (step w x r .machine)
 
-module _ (call : MayGive) (exact : Exact call) where
-  -- every list has a run of calls from every record, the one that `run` says: the claim is of something
-  pub exact-run :
-      (accesses : List Access) (r : Machine)
-      → Calls call accesses r (run accesses r .answers) (run accesses r .machine)
-  unfolding run access
-  exact-run [] r = none
-  exact-run (a ∷ rest) r = next (exact .may _ _ _) (exact-run rest _)
-
+module _ (call : MayGive) (only : Only call) where
   -- the equations, not truncated: an answer and a record are equal in one way at most
   gives : (w x : ℕ) (r : Machine) (answer : Answer) (after : Machine) → call w x r answer after → OfStep w x r answer after
   gives w x r answer after c =
       ∥∥₁-elim
-      (exact .only w x r answer after c)
+      (only w x r answer after c)
       (×-prop (coded-set (N′.the-row .coded) answer _) (coded-set (M′.the-row .coded) after _))
       (λ e. e)
 
@@ -83,8 +79,8 @@ module _ (call : MayGive) (exact : Exact call) where
         ih .1 ∙ ap (λ r. run rest r .machine) (e .1),
       )
 
-  pub exact-calls-run : CallsRun call
-  exact-calls-run accesses r after answers c = calls-run c
+  pub only-calls-run : CallsRun call
+  only-calls-run accesses r after answers c = calls-run c
 
   calls-isolated :
       {x : Named} {accesses : List Access} {r₁ r₂ after₁ after₂ : Machine} {answers₁ answers₂ : List Answer}
@@ -108,14 +104,29 @@ module _ (call : MayGive) (exact : Exact call) where
   calls-claim top named when claim r₁ r₂ accesses s₁ s₂ w l e after₁ after₂ answers₁ answers₂ c d =
       calls-isolated (claim r₁ r₂ accesses s₁ s₂ w l e) c d
 
-  pub exact-noninterference : CallsNoninterference call
-  exact-noninterference =
+  pub only-noninterference : CallsNoninterference call
+  only-noninterference =
       record {
         hpmn = calls-claim _ _ _ (noninterference .hpmn);
         pmuacr = calls-claim _ _ _ (noninterference .pmuacr);
         f0 = calls-claim _ _ _ (noninterference .f0);
         sampling = calls-claim _ _ _ (noninterference .sampling);
       }
+
+module _ (call : MayGive) (exact : Exact call) where
+  -- every list has a run of calls from every record, the one that `run` says: the claim is of something
+  pub exact-run :
+      (accesses : List Access) (r : Machine)
+      → Calls call accesses r (run accesses r .answers) (run accesses r .machine)
+  unfolding run access
+  exact-run [] r = none
+  exact-run (a ∷ rest) r = next (exact .may _ _ _) (exact-run rest _)
+
+  pub exact-calls-run : CallsRun call
+  exact-calls-run = only-calls-run call (exact .only)
+
+  pub exact-noninterference : CallsNoninterference call
+  exact-noninterference = only-noninterference call (exact .only)
 
 -- a call of `access::step`: a result of which its contract holds, as the source states it
 abbrev pub Call : World → MayGive

@@ -1,5 +1,5 @@
 -- What takes commands back, how the undo list follows, and what the tags of commands say.
 pub mod Taken
 pub mod Noted
-pub mod Tags
+pub mod Variants
 pub mod Ran

@@ -2,13 +2,14 @@
 use Prim.Native.Nat.{ℕ, zero, suc}
 use mathlib.Core.Bool.{Bool, true, false, cond}
 use mathlib.Core.List.{List, [], _∷_}
-use mathlib.Core.Path.{_≡_, refl, sym, _∙_, ap, ap₂}
+use mathlib.Core.Path.{_≡_, refl, sym, _∙_, ap, ap₂, subst}
 use lib.ListN.{take}
 use Rattle.access.specs.declared.Said.{Said}
 use Rattle.access.specs.Lent.{Lent}
 use Rattle.answer.specs.declared.Answer.{Answer}
 use Rattle.answer.specs.declared.Refusal.the-variants.{NothingToUndo}
 use Rattle.answer.specs.Refused.{isRefused}
+use Rattle.command.specs.declared.Command.{Command}
 use Rattle.journal.specs.declared.Entry.{Entry}
 use Rattle.journal.specs.declared.Recalled.{Recalled}
 use Rattle.journal.specs.Journal.{capacity, entries, latest, rest}
@@ -21,7 +22,7 @@ use Rattle.undo.specs.declared.Undo.{Undo}
 use Rattle.undo.specs.Undo.{changeDecoded, undoOf, undone, Typed}
 use Rattle.undo.proofs.Steps.{step-taken-back}
 use Rattle.execute.specs.Execute.{response, remember, listing, emptying, keeping, backFrom}
-use Rattle.execute.specs.Words.{earlierBy, historyBy, responseBy, noted}
+use Rattle.execute.specs.Words.{earlierBy, historyBy, responseBy, noted, Executed}
 use Rattle.execute.proofs.Taken.{Stays, step-stays}
 
 -- the list that is cut is the cut list
@@ -81,18 +82,28 @@ access-listed i x r typed l words words′ tag e =
 -- the same of a call's result o, which the definition says is p
 module _ (r : Machine) (words words′ : List ℕ) {o : Outcome} (p : Outcome) (same : o ≡ p) (stays : Stays r p) where
   pub is-listed :
-      (u : Undo) → undone u (p .machine) ≡ r → {result : Outcome}
+      {u : Undo} (v : Undo) → u ≡ v → undone v (p .machine) ≡ r → {result : Outcome}
       → (result ≡ o) × (entries words′ ≡ noted (o .answer) u 0 (entries words))
-      → responseBy result words′ ≡ listing p (historyBy r words)
-  is-listed u back e =
-      ap (λ o. responseBy o words′) (e .0 ∙ same)
-      ∙ listed r p stays words words′ u 0 back (e .1 ∙ ap (λ (o : Outcome). noted (o .answer) u 0 (entries words)) same)
+      → (responseBy result words′ ≡ listing p (historyBy r words))
+      × (entries words′ ≡ noted (result .answer) v 0 (entries words))
+  is-listed v kept back e =
+      let put = e .1 ∙ ap (λ u. noted (o .answer) u 0 (entries words)) kept in (
+        ap (λ o. responseBy o words′) (e .0 ∙ same)
+            ∙ listed r p stays words words′ v 0 back (put ∙ ap (λ (o : Outcome). noted (o .answer) v 0 (entries words)) same),
+        put ∙ sym (ap (λ (o : Outcome). noted (o .answer) v 0 (entries words)) (e .0)),
+      )
 
   pub is-emptied :
       entries words′ ≡ cond (isRefused (o .answer)) (entries words) [] → responseBy o words′ ≡ emptying p (historyBy r words)
   is-emptied e =
       ap (λ o. responseBy o words′) same
       ∙ emptied r p stays words words′ (e ∙ ap (λ (o : Outcome). cond (isRefused (o .answer)) (entries words) []) same)
+
+-- what is shown of a command, of another name for it
+pub same-command :
+    {c d : Command} {r : Machine} {o : Outcome} {words words′ : List ℕ} → c ≡ d → Executed d r o words words′
+    → Executed c r o words words′
+same-command {r = r} {o = o} {words = words} {words′ = words′} e = subst (λ d. Executed d r o words words′) (sym e)
 
 -- a command that changes neither the record nor the list
 pub is-kept :

@@ -4,11 +4,10 @@ ghost use mathlib.Core.List.{[]};
 ghost use mathlib.Core.Path.{_≡_};
 ghost use Rattle.answer.specs.Refused.{isRefused};
 ghost use Rattle.command.specs.Command.{isAccess};
-ghost use Rattle.journal.specs.Journal.{entries};
+ghost use Rattle.journal.specs.Journal.{entries, rest};
 ghost use Rattle.machine.specs.Machine.{machineOf};
-ghost use Rattle.undo.specs.Undo.{held};
-ghost use Rattle.execute.specs.Execute.{backFrom, tickCommand, obey};
-ghost use Rattle.execute.specs.Words.{earlierBy, historyBy, responseBy, Accessed, noted};
+ghost use Rattle.execute.specs.Execute.{backFrom, tickCommand};
+ghost use Rattle.execute.specs.Words.{earlierBy, responseBy, Accessed, Executed, noted};
 use access::Said;
 use answer::Answer;
 use answer::Refusal;
@@ -37,8 +36,8 @@ pub fn note(a: Answer, u: Undo, tag: u32, list: &mut [u64; 194])
 fn forget(a: Answer, list: &mut [u64; 194])
     ensures { λ r. ⌜ entries (now (list .exit)) ≡ cond (isRefused a) (entries (now (list .entry))) [] ⌝ }
 {
-    let kept = answer::is_refused(a);
-    if kept {
+    let refused = answer::is_refused(a);
+    if refused {
         return;
     }
     journal::empty(list);
@@ -46,7 +45,8 @@ fn forget(a: Answer, list: &mut [u64; 194])
 
 // The step back: the record before the latest listed command, or refused with 18 where none is listed.
 fn back(r: Machine, list: &mut [u64; 194]) -> Outcome
-    ensures { λ o. ⌜ responseBy o (now (list .exit)) ≡ backFrom r (earlierBy (entries (now (list .entry))) r) ⌝ }
+    ensures { λ o. ⌜ (responseBy o (now (list .exit)) ≡ backFrom r (earlierBy (entries (now (list .entry))) r))
+        × (entries (now (list .exit)) ≡ rest (entries (now (list .entry)))) ⌝ }
 {
     let latest = journal::recall(list);
     match latest {
@@ -109,21 +109,19 @@ fn tick_command(p: u8, r: Machine) -> Outcome
     external::tick(p == 1, r)
 }
 
-// The outcome of a command by value, listed unless it was refused: the field that it may have changed, and the level and the
-// overflow flags before it, are kept.
-fn listed(o: Outcome, field: u8, old: u64, level: u8, ovs: u64, list: &mut [u64; 194]) -> Outcome
-    ensures { λ r. ⌜ (r ≡ o) × (entries (now (list .exit)) ≡ noted (o .answer)
-        (record { change = held field old; level = level; ovs = ovs }) 0 (entries (now (list .entry)))) ⌝ }
+// The outcome of a command by value, of which u is kept, listed unless it was refused.
+fn listed(o: Outcome, u: Undo, list: &mut [u64; 194]) -> Outcome
+    ensures { λ r. ⌜ (r ≡ o) × (entries (now (list .exit)) ≡ noted (o .answer) u 0 (entries (now (list .entry)))) ⌝ }
 {
     let a = o.answer;
-    note(a, undo::kept(field, old, level, ovs), 0, list);
+    note(a, u, 0, list);
     o
 }
 
 // What a command other than an access answers and does to the record and the list.
 pub fn other(c: Command, r: Machine, list: &mut [u64; 194]) -> Outcome
     requires { ⌜ isAccess c ≡ false ⌝ }
-    ensures { λ o. ⌜ responseBy o (now (list .exit)) ≡ obey c (historyBy r (now (list .entry))) ⌝ }
+    ensures { λ o. ⌜ Executed c r o (now (list .entry)) (now (list .exit)) ⌝ }
 {
     let at = r.level;
     let v = r.values;
@@ -135,40 +133,24 @@ pub fn other(c: Command, r: Machine, list: &mut [u64; 194]) -> Outcome
             forget(a, list);
             o
         }
-        Command::Level { level } => listed(
-            fields::set::set_level(level, r),
-            undo::NOTHING,
-            0,
-            at,
-            v.ovs,
-            list,
-        ),
+        Command::Level { level } => {
+            let u = undo::kept(undo::NOTHING, 0, at, v.ovs);
+            listed(fields::set::set_level(level, r), u, list)
+        }
         Command::Read { offset } => external::read(offset, r),
-        Command::Write { offset, value } => listed(
-            external::write(offset, value, r),
-            0x34,
-            s.cnten,
-            at,
-            v.ovs,
-            list,
-        ),
-        Command::Tick { prohibited } => listed(
-            tick_command(prohibited, r),
-            0x7F,
-            v.instructions,
-            at,
-            v.ovs,
-            list,
-        ),
+        Command::Write { offset, value } => {
+            let u = undo::kept(0x34, s.cnten, at, v.ovs);
+            listed(external::write(offset, value, r), u, list)
+        }
+        Command::Tick { prohibited } => {
+            let u = undo::kept(0x7F, v.instructions, at, v.ovs);
+            listed(tick_command(prohibited, r), u, list)
+        }
         Command::Back => back(r, list),
-        Command::Member { draw } => listed(
-            external::member(draw, r),
-            0x8C,
-            v.pmsicr,
-            at,
-            v.ovs,
-            list,
-        ),
+        Command::Member { draw } => {
+            let u = undo::kept(0x8C, v.pmsicr, at, v.ovs);
+            listed(external::member(draw, r), u, list)
+        }
         Command::Bad(n) => Outcome {
             answer: Answer::Refused(n),
             machine: r,

@@ -1,22 +1,24 @@
--- Steps back by calls of the code, as specs/Calls.antt states it. All that is known of a call is the contract of
+-- Commands, and steps back, by calls of the code, as specs/Calls.antt states it. All that is known of a call is the contract of
 -- `execute::access_decoded` or `execute::other`, as the check takes it from the source: were one weaker, `does` would be
 -- refused.
-use Prim.Native.Nat.{ℕ, zero, suc}
+use Prim.Native.Nat.{ℕ}
 use mathlib.Core.Bool.{false}
-use mathlib.Core.List.{List, []}
+use mathlib.Core.HLevel.{×-prop, Σ-set}
+use mathlib.Core.List.{List, _∷_, List·isSet}
 use mathlib.Core.Logic.{∥∥₁-elim, ∥∥₁-map, ∥∥₁-prop}
 use mathlib.Core.Path.{_≡_, refl, _∙_, ap}
 use base.Stored.{coded-set}
 use borrow.Fn.World.{World}
-use lib.ListN.{replicate}
+use ghost.Sets.{retract-set}
 use Rattle.access.specs.Calls.{Obeyed, Reference, to}
 use Rattle.access.specs.Lent.{Stayed, sayingSo}
 use Rattle.access.proofs.Calls.{asked, said, stated}
 use Rattle.answer.specs.declared.Answer.{Answer}
+use Rattle.answer.proofs.Answer as N′
 use Rattle.command.specs.declared.Command.{Command}
 use Rattle.command.specs.Command.{isAccess}
 use Rattle.execute.specs.Execute.{History, Response, obey}
-use Rattle.execute.specs.Words.{historyBy, responseBy, Accessed}
+use Rattle.execute.specs.Words.{historyBy, responseBy, Executed, Accessed}
 use Rattle.execute.proofs.access_decoded as access′
 use Rattle.execute.proofs.other as other′
 use Rattle.machine.specs.declared.Machine.{Machine}
@@ -25,12 +27,12 @@ use Rattle.machine.proofs.Machine as M′
 use Rattle.rules.specs.Word.{decode}
 use Rattle.execute.proofs.Ran.{access-ran}
 use Rattle.undo.specs.declared.Change.{Change}
-use Rattle.histories.specs.Back.{after, steps, stepsBack}
-use Rattle.histories.specs.Calls.{MayGive, Run, none, next, CallsThereAndBack}
+use Rattle.histories.specs.Back.{perform, steps, stepsBack}
+use Rattle.histories.specs.Calls.{MayGive, Run, none, next, CallsPerform, CallsThereAndBack}
 use Rattle.histories.proofs.ThereAndBack.{there-and-back}
 
 -- a call of `execute::other`
-abbrev Other : World → MayGive
+abbrev pub Other : World → MayGive
 Other w c m words answer left between =
     (l : Reference)
     × Obeyed
@@ -43,7 +45,7 @@ Other w c m words answer left between =
     (says answer left)
 
 -- a call of `execute::access_decoded` with the instruction that the word is, and the parts of the record
-abbrev Access : World → ℕ → ℕ → Machine → List ℕ → Answer → Machine → List ℕ → Type 1
+abbrev pub Access : World → ℕ → ℕ → Machine → List ℕ → Answer → Machine → List ℕ → Type 1
 Access w word x m words answer left between =
     (p : Reference)
     × (q : Reference)
@@ -85,8 +87,9 @@ module _ (w : World) where
       → Does c m words answer left between
   unfolding Does
   other-does c n m words answer left between call =
-      said w (responseBy (says answer left) between ≡ obey c (historyBy m words))
-      (call .1 tt (stated w (isAccess c ≡ false) n (asked w)))
+      ∥∥₁-map
+      (said w (Executed c m (says answer left) words between) (call .1 tt (stated w (isAccess c ≡ false) n (asked w))))
+      (λ e. e .obeyed)
 
   access-does :
       (word x : ℕ) (m : Machine) (words : List ℕ) (answer : Answer) (left : Machine) (between : List ℕ)
@@ -114,26 +117,45 @@ module _ (w : World) where
   does (Command.Member d) = other-does (Command.Member d) refl
   does (Command.Bad n) = other-does (Command.Bad n) refl
 
-  -- so a run of calls leaves what the commands, run by the definition, leave
-  runs :
-      {cs : List Command} {m left : Machine} {words words′ : List ℕ} → Run (Call w) cs m words left words′
-      → ∥ historyBy left words′ ≡ after cs (historyBy m words) ∥₁
-  unfolding after Does
-  runs none = ∣ refl ∣₁
-  runs (next {c = c} {cs = cs} call more) =
-      ∥∥₁-elim (does c _ _ _ _ _ call) ∥∥₁-prop
-      (λ e. ∥∥₁-map (runs more) (λ r. r ∙ ap (λ (o : Response). after cs (o .kept)) e))
+  -- so a run of calls answers and leaves what the commands, run by the definition, do
+  Performs : List Command → Machine → List ℕ → List Answer → Machine → List ℕ → Type 0
+  Performs cs m words answers left words′ =
+      (answers ≡ perform cs (historyBy m words) .answers) × (historyBy left words′ ≡ perform cs (historyBy m words) .left)
 
-  backs : (n : ℕ) (k : History) → after (replicate n Command.Back) k ≡ stepsBack n k
-  unfolding after stepsBack
-  backs zero k = refl
-  backs (suc n) k = backs n (obey Command.Back k .kept)
+  performs :
+      {cs : List Command} {m left : Machine} {words words′ : List ℕ} {answers : List Answer}
+      → Run (Call w) cs m words answers left words′
+      → ∥ Performs cs m words answers left words′ ∥₁
+  unfolding perform Does Performs
+  performs none = ∣ (refl, refl) ∣₁
+  performs (next {c = c} {cs = cs} call more) =
+      ∥∥₁-elim (does c _ _ _ _ _ call) ∥∥₁-prop
+      (λ e.
+      ∥∥₁-map (performs more)
+      (λ p. (
+        (λ i. e i .answer ∷ (p .0 ∙ ap (λ (o : Response). perform cs (o .kept) .answers) e) i),
+        p .1 ∙ ap (λ (o : Response). perform cs (o .kept) .left) e,
+      )))
+
+  -- a record and a list are equal in one way at most
+  history-set : IsSet History
+  history-set =
+      retract-set (λ (k : History). (k .machine, k .earlier)) (λ p. record { machine = p .0; earlier = p .1 }) (λ k. refl)
+      (Σ-set (coded-set (M′.the-row .coded)) (λ m. List·isSet (coded-set (M′.the-row .coded))))
+
+  pub calls-perform : CallsPerform (Call w)
+  unfolding Performs
+  calls-perform cs m left words words′ answers run =
+      ∥∥₁-elim (performs run)
+      (×-prop (List·isSet (coded-set (N′.the-row .coded)) answers _) (history-set _ _))
+      (λ p. p)
 
   pub calls-there-and-back : CallsThereAndBack (Call w)
-  calls-there-and-back cs m left back words words′ words″ there f l run =
-      ∥∥₁-elim (runs there) (coded-set (M′.the-row .coded) back m)
-      (λ t. ∥∥₁-elim (runs run) (coded-set (M′.the-row .coded) back m)
-      (λ b.
+  calls-there-and-back cs m left back words words′ words″ answers backs there f l run =
       let n = steps cs (historyBy m words) in
-      ap (λ (k : History). k .machine) (b ∙ backs n (historyBy left words′) ∙ ap (stepsBack n) t)
-      ∙ there-and-back cs (historyBy m words) f l))
+      let t = calls-perform cs m left words words′ answers there .1 in
+      let b = calls-perform (stepsBack n) left back words′ words″ backs run in
+      let brought = there-and-back cs (historyBy m words) f l in (
+        b .0 ∙ ap (λ k. perform (stepsBack n) k .answers) t ∙ brought .answers,
+        ap (λ (k : History). k .machine) (b .1) ∙ ap (λ k. perform (stepsBack n) k .left .machine) t ∙ brought .machine,
+      )

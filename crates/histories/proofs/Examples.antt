@@ -16,7 +16,8 @@ use Rattle.rules.specs.Apply.{incremented, apply}
 use Rattle.rules.specs.Step.{decideRegister, decide, step}
 use Rattle.rules.specs.External.{shownOf, reach, effectOf, externalRead, externalWrite, tick, member}
 use Rattle.rules.specs.Example.{usual}
-use Rattle.histories.specs.Examples.{perform, actual, expected, backExamples}
+use Rattle.histories.specs.Back.{perform}
+use Rattle.histories.specs.Examples.{actual, expected, backExamples}
 
 -- MODEL H11
 pub examples-hold : map actual backExamples ≡ map expected backExamples

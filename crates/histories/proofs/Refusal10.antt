@@ -61,7 +61,7 @@ module _ (r : Machine) where
   register-spares v Pmswinc i x = search (either (Spares r), stopped-spares)
   register-spares v Pmicntr i x = search (either (Spares r), stopped-spares)
   register-spares v Pmsicr i x = search (either (Spares r), stopped-spares)
-  register-spares v Other i x = search (either (Spares r), stopped-spares)
+  register-spares v Other i x = search stopped-spares
 
   refused-spares : (v : Verdict) (d : Decision) → Passes v → Spares r d → Spares r (unlessRefused v d)
   unfolding Passes apply

@@ -1,19 +1,29 @@
 -- The claim on steps back, about the commands' own definition.
-use Prim.Native.Nat.{ℕ, zero, suc, _+_, _≤_}
+use Prim.Native.Nat.{ℕ, _+_, _≤_}
 use mathlib.Core.Bool.{Bool, true, false, cond, not, _&&_}
 use mathlib.Core.List.{List, [], _∷_}
 use mathlib.Core.Path.{_≡_}
+use lib.ListN.{replicate}
 use Rattle.answer.specs.declared.Answer.{Answer}
 use Rattle.answer.specs.Refused.{isRefused}
 use Rattle.command.specs.declared.Command.{Command}
 use Rattle.command.specs.Command.{isSet, isBack}
 use Rattle.journal.specs.Journal.{capacity}
 use Rattle.execute.specs.Execute.{History, obey}
+use Rattle.machine.specs.declared.Machine.{Machine}
+
+-- MODEL S2: what commands answer, and record and list after them
+pub record Performed : Type 0 where
+  pub answers : List Answer
+  pub left : History
 
 -- MODEL S2: commands run one after another
-unfoldable pub after : List Command → History → History
-after [] k = k
-after (c ∷ cs) k = after cs (obey c k .kept)
+unfoldable pub perform : List Command → History → Performed
+perform [] k = record { answers = []; left = k }
+perform (c ∷ cs) k =
+    let o = obey c k in
+    let then = perform cs (o .kept) in
+    record { answers = o .answer ∷ then .answers; left = then .left }
 
 -- MODEL H2: the commands that are listed unless they are refused
 abbrev pub isListed : Command → Bool
@@ -49,13 +59,17 @@ forward (c ∷ cs) k =
     let o = obey c k in goesOn c (o .answer) && forward cs (o .kept)
 
 -- MODEL H7: so many steps back
-unfoldable pub stepsBack : ℕ → History → History
-stepsBack zero k = k
-stepsBack (suc n) k = stepsBack n (obey Command.Back k .kept)
+abbrev pub stepsBack : ℕ → List Command
+stepsBack n = replicate n Command.Back
+
+-- MODEL H1 and H7: n steps back all answer `ok`, and bring back the record m
+pub record BringBack (n : ℕ) (k : History) (m : Machine) : Type 0 where
+  pub answers : perform (stepsBack n) k .answers ≡ replicate n Answer.Ok
+  pub machine : perform (stepsBack n) k .left .machine ≡ m
 
 -- MODEL H7: after commands of which up to 64 are listed, none of them a step back and none that empties the list, as many steps
--- back bring back the record before them
+-- back as were listed bring back the record before them
 abbrev pub ThereAndBack : Type 0
 ThereAndBack =
     (cs : List Command) (k : History) → forward cs k ≡ true → steps cs k ≤ capacity
-    → stepsBack (steps cs k) (after cs k) .machine ≡ k .machine
+    → BringBack (steps cs k) (perform cs k .left) (k .machine)

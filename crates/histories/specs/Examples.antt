@@ -15,11 +15,11 @@ use Rattle.answer.specs.declared.Refusal.the-variants.{
 }
 use Rattle.command.specs.declared.Command.{Command}
 use Rattle.command.specs.declared.Command.the-variants.{Set, Level, Access, Read, Write, Tick, Back, Member}
-use Rattle.execute.specs.Execute.{History, obey}
 use Rattle.fields.specs.Set.{setAll}
 use Rattle.machine.specs.declared.Machine.{Machine}
 use Rattle.machine.specs.Machine.{withLevel}
 use Rattle.rules.specs.Example.{usual, countersOn, trap, gives}
+use Rattle.histories.specs.Back.{perform}
 
 -- MODEL H11: what is set before, field and value, and the level; the commands and their answers; and what is then set, the level
 -- that the record then has, and how many commands are listed
@@ -38,17 +38,12 @@ pub record Result : Type 0 where
   pub machine : Machine
   pub listed : ℕ
 
--- MODEL S2 and H11: the commands run, from a record and a list
-unfoldable pub perform : List Command → History → Result
-perform [] k = record { answers = []; machine = k .machine; listed = length (k .earlier) }
-perform (c ∷ cs) k =
-    let o = obey c k in
-    let then = perform cs (o .kept) in
-    record { answers = o .answer ∷ then .answers; machine = then .machine; listed = then .listed }
-
 -- MODEL H11: what the definitions give
 unfoldable pub actual : Example → Result
-actual e = perform (e .commands) (record { machine = withLevel (e .level) (setAll (e .given) usual); earlier = [] })
+actual e =
+    let start = withLevel (e .level) (setAll (e .given) usual) in
+    let then = perform (e .commands) (record { machine = start; earlier = [] }) in
+    record { answers = then .answers; machine = then .left .machine; listed = length (then .left .earlier) }
 
 -- MODEL H11: what the example says
 unfoldable pub expected : Example → Result
@@ -135,6 +130,9 @@ backExamples =
     ∷ Answer.Ok
     ∷ Answer.Value 1
     ∷ [])
+    -- MODEL H2: external writes that get `other` and `error` are listed
+    ∷ undoes ((0x3A, 1) ∷ []) 1 (Write 0xC04 1 ∷ Write 0xC00 1 ∷ Back ∷ Back ∷ Back ∷ [])
+    (Answer.Other ∷ Answer.Error ∷ Answer.Ok ∷ Answer.Ok ∷ no NothingToUndo ∷ [])
     -- MODEL H2 and H4: what is refused is not listed
     ∷ undoes [] 1 (Level 4 ∷ Tick 2 ∷ Back ∷ []) (no LevelTooLarge ∷ no ValueTooLarge ∷ no NothingToUndo ∷ [])
     -- MODEL H6: a record that is not consistent is stepped back from too, and its refused access is not listed

@@ -95,7 +95,7 @@ fn mark(list: &mut [u64], n: u64, at: usize)
     list[1] = at as u64;
 }
 
-// MODEL H1, H3: one entry more, the latest; of 64 the oldest drops off.
+// MODEL H1, H3: one entry more, the latest; of more than 64 the oldest drops off.
 pub fn remember(list: &mut [u64; 194], e: Entry)
     ensures { λ r. ⌜ entries (now (list .exit)) ≡ take capacity (e ∷ entries (now (list .entry))) ⌝ }
 {

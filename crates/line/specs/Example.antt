@@ -7,7 +7,7 @@ use Rattle.answer.specs.declared.Cause.{Cause}
 use Rattle.answer.specs.declared.Cause.the-variants.{Pmuserenr, FineGrained, Mdcr2Tpm, Hpmn, Mdcr3Tpm, EnPm2, FgtEn2, Tpms, Nspb}
 use Rattle.answer.specs.declared.Level.{Level}
 use Rattle.answer.specs.declared.Level.the-variants.{El1, El2, El3}
-use Rattle.answer.specs.declared.Refusal.the-variants.{UnknownField, FeatureMissing}
+use Rattle.answer.specs.declared.Refusal.the-variants.{UnknownField, FeatureMissing, NothingToUndo}
 
 -- MODEL L1: a trap by its parts
 abbrev pub trap : Level → ℕ → Cause → Answer
@@ -26,6 +26,7 @@ texts =
     ∷ (Answer.Mrs 0x2A 2, "value 000000000000002A 2")
     ∷ (Answer.Refused UnknownField, "refused 3")
     ∷ (Answer.Refused FeatureMissing, "refused 17")
+    ∷ (Answer.Refused NothingToUndo, "refused 18")
     -- MODEL P1, P2 and P8, and the other causes
     ∷ (trap El2 0x6238F851 Hpmn, "trap 2 6238F851 4")
     ∷ (trap El2 0x623AF851 Hpmn, "trap 2 623AF851 4")

@@ -30,7 +30,7 @@ linesFrom position (a ∷ rest) = lineOf position a ++ linesFrom (suc position) 
 abbrev pub longest : ℕ
 longest = 4096
 
--- MODEL S2: the answers of a session that is not too long, run from the fresh record
+-- MODEL S2: the answers of a session that is not too long, run from the fresh record, with nothing listed
 unfoldable pub answersOf : List ℕ → List Answer
 answersOf s = answersFrom (suc (length s)) s begun
 

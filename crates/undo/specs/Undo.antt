@@ -104,6 +104,6 @@ undone u r =
     (countersBefore c (r .settings .features .p5) (r .events) (r .counters))
     (valuesBefore c (u .ovs) (r .values))
 
--- MODEL H8: counters of 64 bits each, which is what their type says
+-- MODEL F15: counters of 64 bits each, which is what their type says
 abbrev pub Typed : List ℕ → Type 0
 Typed counters = (m : ℕ) → getD counters m 0 < 2 ^ 64

@@ -87,7 +87,7 @@ const SWINC: [Row; 18] = [
     ("swinc-p-bits", &[(UEN, 1), (PMUACR_P, 8), (COUNTER, LOW), (COUNTER + 3, LOW)], |s| {
         s.access(PMSWINC, 0x1F)
     }),
-    ("swinc-not-lent", &[(COUNTER + 4, LOW), (LEVEL, 1)], |s| s.access(PMSWINC, 0x30)),
+    ("swinc-from-hpmn", &[(COUNTER + 4, LOW), (LEVEL, 1)], |s| s.access(PMSWINC, 0x30)),
     ("swinc-high-bits", &[(LEVEL, 3)], |s| s.access(PMSWINC, 0xFFFF_FFFF_8000_0000)),
     ("swinc-xzr", &[(LEVEL, 3)], |s| s.access(PMSWINC | 31, 0x1F)),
 ];

@@ -14,6 +14,7 @@ returns c =
     record {
       lent = lent;
       listed = access-listed (args .i) (args .x) m (at-typed .typed .ensures) lent (args .list .now) _ 0 (c .note .ensures);
+      kept = c .note .ensures;
     }
 
 pub access-decoded-spec : {M : Type 1} → statement M

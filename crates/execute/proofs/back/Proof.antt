@@ -7,15 +7,18 @@ use Rattle.execute.proofs.back.Tie as tie
 returns : tie.Need-returns
 returns c =
     let at-recall = c .before .before in
-    nothing-back (at-recall .before .before .args .r) _ _ _ (c .enum-told .given .1) (at-recall .recall .ensures .0)
-    (at-recall .recall .ensures .1)
+    let recalled = at-recall .recall .ensures in
+    (nothing-back (at-recall .before .before .args .r) _ _ _ (c .enum-told .given .1) (recalled .0) (recalled .1), recalled .1)
 
 returns-2 : tie.Need-returns-2
 returns-2 c =
     let at-latest = c .before .before .before in
     let at-recall = at-latest .before .before in
-    latest-back (at-recall .before .before .args .r) _ _ _ (at-latest .latest .given .1) (at-recall .recall .ensures .0)
-    (at-recall .recall .ensures .1) _ (c .undone .ensures)
+    let recalled = at-recall .recall .ensures in (
+      latest-back (at-recall .before .before .args .r) _ _ _ (at-latest .latest .given .1) (recalled .0) (recalled .1) _
+          (c .undone .ensures),
+      recalled .1,
+    )
 
 pub back-spec : {M : Type 1} → statement M
 back-spec =

@@ -1,91 +1,106 @@
 -- `execute::other` meets its contract: a case for each command, by the contracts of what it calls.
+use mathlib.Core.Path.{refl}
 use borrow.Author.Needs.{needs}
-use Rattle.undo.specs.Undo.{held, undoOf}
+use Rattle.undo.specs.Undo.{unchanged, held, undoOf}
 use Rattle.execute.specs.Execute.{obey}
-use Rattle.execute.specs.Words.{historyBy}
-use Rattle.execute.proofs.Noted.{is-listed, is-emptied, is-kept}
-use Rattle.execute.proofs.Tags.{only-end}
+use Rattle.execute.specs.Words.{entriesAfter}
+use Rattle.execute.proofs.Noted.{is-listed, is-emptied, is-kept, same-command}
 use Rattle.execute.proofs.Taken.{level-back, write-back, tick-back, member-back}
 use Rattle.execute.proofs.Taken.{set-stays, level-stays, read-same, write-stays, tick-stays, member-stays}
+use Rattle.execute.proofs.Variants.{only-end}
 use Rattle.execute.proofs.other.Statement.{statement}
 use Rattle.execute.proofs.other.Tie as tie
 
 returns : tie.Need-returns
-unfolding obey
+unfolding obey entriesAfter
 returns c =
     let at-set = c .before .before in
     let at-c = at-set .before .before in
     let at-start = at-c .before .before .before .before in
     let r = at-start .args .r in
-    simp (at-c .c .given .1)
-    (is-emptied r (at-start .args .list .now) _ _ (at-set .set .ensures) (set-stays r _ _) (c .forget .ensures))
+    same-command (at-c .c .given .1) (record {
+      obeyed = is-emptied r (at-start .args .list .now) _ _ (at-set .set .ensures) (set-stays r _ _) (c .forget .ensures);
+      kept = c .forget .ensures;
+    })
 
 returns-2 : tie.Need-returns-2
-unfolding obey
+unfolding obey entriesAfter
 returns-2 c =
     let at-set-level = c .before .before in
-    let at-c = at-set-level .before .before in
-    let at-start = at-c .before .before .before .before in
+    let at-kept = at-set-level .before in
+    let at-c2 = at-kept .before .before in
+    let at-start = at-c2 .before .before .before .before in
     let r = at-start .args .r in
-    simp (at-c .c2 .given .1)
-    (is-listed r (at-start .args .list .now) _ _ (at-set-level .set-level .ensures) (level-stays r _)
-    (undoOf (held 0xFF 0) r) (level-back r _) (c .listed .ensures))
+    let both =
+    is-listed r (at-start .args .list .now) _ _ (at-set-level .set-level .ensures) (level-stays r _)
+    (undoOf unchanged r) (at-kept .kept .ensures) (level-back r _) (c .listed .ensures) in
+    same-command (at-c2 .c2 .given .1) (record { obeyed = both .0; kept = both .1 })
 
 returns-3 : tie.Need-returns-3
-unfolding obey
+unfolding obey entriesAfter
 returns-3 c =
     let at-c3 = c .before .before in
     let at-start = at-c3 .before .before .before .before in
     let r = at-start .args .r in
-    simp (at-c3 .c3 .given .1) (is-kept r (at-start .args .list .now) _ (c .read .ensures) (read-same r _))
+    same-command (at-c3 .c3 .given .1) (record {
+      obeyed = is-kept r (at-start .args .list .now) _ (c .read .ensures) (read-same r _);
+      kept = refl;
+    })
 
 returns-4 : tie.Need-returns-4
-unfolding obey
+unfolding obey entriesAfter
 returns-4 c =
     let at-write = c .before .before in
-    let at-c = at-write .before .before in
-    let at-start = at-c .before .before .before .before in
+    let at-kept2 = at-write .before in
+    let at-c4 = at-kept2 .before .before in
+    let at-start = at-c4 .before .before .before .before in
     let r = at-start .args .r in
-    simp (at-c .c4 .given .1)
-    (is-listed r (at-start .args .list .now) _ _ (at-write .write .ensures) (write-stays r _ _)
-    (undoOf (held 0x34 (r .settings .cnten)) r) (write-back r _ _) (c .listed2 .ensures))
+    let both =
+    is-listed r (at-start .args .list .now) _ _ (at-write .write .ensures) (write-stays r _ _)
+    (undoOf (held 0x34 (r .settings .cnten)) r) (at-kept2 .kept2 .ensures) (write-back r _ _) (c .listed2 .ensures) in
+    same-command (at-c4 .c4 .given .1) (record { obeyed = both .0; kept = both .1 })
 
 returns-5 : tie.Need-returns-5
-unfolding obey
+unfolding obey entriesAfter
 returns-5 c =
     let at-tick-command = c .before .before in
-    let at-c = at-tick-command .before .before in
-    let at-start = at-c .before .before .before .before in
+    let at-kept3 = at-tick-command .before in
+    let at-c5 = at-kept3 .before .before in
+    let at-start = at-c5 .before .before .before .before in
     let r = at-start .args .r in
-    simp (at-c .c5 .given .1)
-    (is-listed r (at-start .args .list .now) _ _ (at-tick-command .tick-command .ensures) (tick-stays r _)
-    (undoOf (held 0x7F (r .values .instructions)) r) (tick-back r _) (c .listed3 .ensures))
+    let both =
+    is-listed r (at-start .args .list .now) _ _ (at-tick-command .tick-command .ensures) (tick-stays r _)
+    (undoOf (held 0x7F (r .values .instructions)) r) (at-kept3 .kept3 .ensures) (tick-back r _) (c .listed3 .ensures) in
+    same-command (at-c5 .c5 .given .1) (record { obeyed = both .0; kept = both .1 })
 
 returns-6 : tie.Need-returns-6
-unfolding obey
+unfolding obey entriesAfter
 returns-6 c =
     let at-enum-told = c .before .before in
-    simp (at-enum-told .enum-told .given .1) (c .back .ensures)
+    same-command (at-enum-told .enum-told .given .1) (record { obeyed = c .back .ensures .0; kept = c .back .ensures .1 })
 
 returns-7 : tie.Need-returns-7
-unfolding obey
+unfolding obey entriesAfter
 returns-7 c =
     let at-member = c .before .before in
-    let at-c = at-member .before .before in
-    let at-start = at-c .before .before .before .before in
+    let at-kept4 = at-member .before in
+    let at-c6 = at-kept4 .before .before in
+    let at-start = at-c6 .before .before .before .before in
     let r = at-start .args .r in
-    simp (at-c .c6 .given .1)
-    (is-listed r (at-start .args .list .now) _ _ (at-member .member .ensures) (member-stays r _)
-    (undoOf (held 0x8C (r .values .pmsicr)) r) (member-back r _) (c .listed4 .ensures))
+    let both =
+    is-listed r (at-start .args .list .now) _ _ (at-member .member .ensures) (member-stays r _)
+    (undoOf (held 0x8C (r .values .pmsicr)) r) (at-kept4 .kept4 .ensures) (member-back r _) (c .listed4 .ensures) in
+    same-command (at-c6 .c6 .given .1) (record { obeyed = both .0; kept = both .1 })
 
 returns-8 : tie.Need-returns-8
-unfolding obey
-returns-8 c = simp (c .before .c7 .given .1)
+unfolding obey entriesAfter
+returns-8 c = same-command (c .before .c7 .given .1) (record { obeyed = refl; kept = refl })
 
 returns-9 : tie.Need-returns-9
+unfolding obey entriesAfter
 returns-9 c =
     let at-start = c .before .before .before in
-    only-end _ (historyBy (at-start .args .r) (at-start .args .list .now)) (c .match .keys9) (at-start .pre)
+    same-command (only-end _ (c .match .keys9) (at-start .pre)) (record { obeyed = refl; kept = refl })
 
 pub other-spec : {M : Type 1} → statement M
 other-spec =
@@ -97,17 +112,21 @@ other-spec =
     (λ c. search needs)
     (λ c κs. tt)
     (λ c κs. tt)
-    (λ c. search needs)
-    (λ c κs. tt)
-    (λ c. search needs)
-    (λ c κs. tt)
-    (λ c κs. tt)
-    (λ c. search needs)
-    (λ c κs. tt)
     (λ c κs. tt)
     (λ c. search needs)
     (λ c κs. tt)
     (λ c. search needs)
+    (λ c κs. tt)
+    (λ c κs. tt)
+    (λ c κs. tt)
+    (λ c. search needs)
+    (λ c κs. tt)
+    (λ c κs. tt)
+    (λ c κs. tt)
+    (λ c. search needs)
+    (λ c κs. tt)
+    (λ c. search needs)
+    (λ c κs. tt)
     (λ c κs. tt)
     (λ c κs. tt)
     (λ c. search needs)

@@ -12,7 +12,7 @@ use Rattle.machine.specs.Machine.{withCounters}
 use Rattle.machine.specs.Outcome.{says}
 use Rattle.execute.specs.Execute.{History, obey}
 use Rattle.execute.specs.Words.{earlierBy, historyBy, responseBy}
-use Rattle.execute.proofs.Tags.{no-access}
+use Rattle.execute.proofs.Variants.{no-access}
 use Rattle.journal.specs.Journal.{listed, entries}
 use Rattle.execute.proofs.Ran.{access-ran, other-ran}
 use Rattle.transcript.proofs.Running.{Running, running-start}
@@ -97,7 +97,7 @@ returns c =
     (λ w.
     access-ran _ m words _ _ _ _ _ _ (w .11 .result) _ _ (w .16) (w .7 .ensures) (w .11 .ensures) (w .17)
     (ap₂ withCounters (w .14) (w .13)) (w .15))
-    (λ v. other-ran _ m words _ _ _ _ (v .2 .result) _ (v .8) (v .2 .ensures) (v .9) (ap₂ withCounters (v .6) (v .5)) (v .7))
+    (λ v. other-ran _ m words _ _ _ _ (v .2 .result) _ (v .8) (v .2 .ensures .obeyed) (v .9) (ap₂ withCounters (v .6) (v .5)) (v .7))
     (at-match .match .came) in (
       turn-end (at-loop .loop .inv) (same ∙ at-command-of .command-of .ensures) (at-size-at .size-at .ensures)
           (c .before .is-last .ensures) ran (at-line .line .ensures .0) (c .if1 .taken),
@@ -123,7 +123,7 @@ loop-again c =
     (λ w.
     access-ran _ m words _ _ _ _ _ _ (w .11 .result) _ _ (w .16) (w .7 .ensures) (w .11 .ensures) (w .17)
     (ap₂ withCounters (w .14) (w .13)) (w .15))
-    (λ v. other-ran _ m words _ _ _ _ (v .2 .result) _ (v .8) (v .2 .ensures) (v .9) (ap₂ withCounters (v .6) (v .5)) (v .7))
+    (λ v. other-ran _ m words _ _ _ _ (v .2 .result) _ (v .8) (v .2 .ensures .obeyed) (v .9) (ap₂ withCounters (v .6) (v .5)) (v .7))
     (at-match .match .came) in
     turn-on (at-loop .loop .inv) (same ∙ at-command-of .command-of .ensures) (at-size-at .size-at .ensures)
     (c .before .is-last .ensures) ran (at-line .line .ensures .0) (at-line .line .ensures .1) (c .if1 .left)
