@@ -14,11 +14,11 @@ pub trait Row {
     fn operand(&self) -> u64;
 }
 
-/// What callgrind counts, by the function's name: one loop over one list.
+/// What callgrind counts, by the function's name: one loop over one list, or one session.
 #[inline(never)]
 #[no_mangle]
-fn bench_counted(run: Loop, sets: &[u64], list: &[u64], operand: u64) -> u64 {
-    run(sets, list, operand)
+pub fn bench_counted(run: &mut dyn FnMut() -> u64) {
+    black_box(run());
 }
 
 /// Each row and loop over a list, and over one of twice its length.
@@ -26,7 +26,8 @@ pub fn count(rows: &[impl Row], loops: &[Loop]) {
     for row in rows {
         for &run in loops {
             for length in [LIST, 2 * LIST] {
-                black_box(bench_counted(run, &row.sets(), &row.list(length), row.operand()));
+                let (sets, list) = (row.sets(), row.list(length));
+                bench_counted(&mut || run(&sets, &list, row.operand()));
             }
         }
     }

@@ -5,6 +5,7 @@
 //! `bench/run` does all three.
 
 mod access;
+mod commands;
 mod counted;
 mod loops;
 mod memory;
@@ -13,14 +14,16 @@ mod sessions;
 
 use std::process::ExitCode;
 
-/// The rows of accesses, then those of registers, in the order of `count`.
+/// The rows of accesses, then those of registers and of commands, in the order of `count`.
 fn report(totals: &[u64]) -> Result<(), String> {
-    if totals.len() != access::counts() + register::counts() {
+    if totals.len() != access::counts() + register::counts() + commands::counts() {
         return Err(format!("{} counts are not two for each row and loop", totals.len()));
     }
-    let (accesses, registers) = totals.split_at(access::counts());
+    let (accesses, rest) = totals.split_at(access::counts());
+    let (registers, commands) = rest.split_at(register::counts());
     access::report(accesses)?;
     register::report(registers)?;
+    commands::report(commands)?;
     sessions::report();
     Ok(())
 }
@@ -31,6 +34,7 @@ fn main() -> ExitCode {
         Some("count") => {
             access::count();
             register::count();
+            commands::count();
             Ok(())
         }
         Some("report") => {

@@ -1,5 +1,4 @@
--- What takes commands back, how the undo list follows, and what the tags of commands say.
+-- What takes commands back, which commands a match leaves, and that the code's calls do what the definition says.
 pub mod Taken
-pub mod Noted
 pub mod Variants
 pub mod Ran

@@ -3,17 +3,37 @@ use Prim.Native.Nat.{ℕ}
 use mathlib.Core.List.{List}
 use mathlib.Core.Path.{_≡_, sym, _∙_, ap}
 use Rattle.access.specs.declared.Said.{Said}
+use Rattle.access.specs.Lent.{Lent}
 use Rattle.access.proofs.Decoded.{by-word, whole-by-word}
 use Rattle.answer.specs.declared.Answer.{Answer}
 use Rattle.command.specs.declared.Command.{Command}
-use Rattle.execute.specs.Execute.{listing, obey}
-use Rattle.execute.specs.Words.{historyBy, responseBy, Accessed}
+use Rattle.execute.specs.Execute.{obey}
+use Rattle.listing.specs.History.{listing}
+use Rattle.execute.specs.Words.{Accessed}
+use Rattle.journal.specs.Journal.{entries}
+use Rattle.listing.specs.Words.{historyBy, responseBy, noted}
+use Rattle.listing.proofs.Noted.{listed}
 use Rattle.machine.specs.declared.Machine.{Machine}
 use Rattle.machine.specs.declared.Outcome.{Outcome}
 use Rattle.machine.specs.Machine.{machineOf}
 use Rattle.machine.specs.Outcome.{says}
 use Rattle.rules.specs.declared.Instruction.{Instruction}
+use Rattle.rules.specs.Step.{stepDecoded}
 use Rattle.rules.specs.Word.{decode}
+use Rattle.undo.specs.Undo.{changeDecoded, undoOf, Typed}
+use Rattle.undo.proofs.Steps.{step-taken-back}
+use Rattle.execute.proofs.Taken.{step-stays}
+
+-- an access with the counters lent, by what is kept of it
+pub access-listed :
+    (i : Instruction) (x : ℕ) (r : Machine) → Typed (r .counters) → {said : Said} {after : List ℕ}
+    → Lent (stepDecoded i x r) (changeDecoded i x r) said after
+    → (words words′ : List ℕ)
+    → (tag : ℕ) → entries words′ ≡ noted (said .answer) (undoOf (said .change) r) tag (entries words)
+    → responseBy (stepDecoded i x r) words′ ≡ listing (stepDecoded i x r) (historyBy r words)
+access-listed i x r typed l words words′ tag e =
+    listed r (stepDecoded i x r) (step-stays r i x) words words′ (undoOf (changeDecoded i x r) r) tag
+    (step-taken-back r typed i x) (e ∙ (λ k. noted (l .answer k) (undoOf (l .change k) r) tag (entries words)))
 
 -- the answer, the record and the words of the undo list after the command c on the record m, before which the words were `words`
 module _ (c : Command) (m : Machine) (words : List ℕ) (a : Answer) (next : Machine) (words′ : List ℕ) where

@@ -10,6 +10,7 @@ use Rattle.answer.specs.Refused.{isRefused}
 use Rattle.bits.specs.Bits.{bit}
 use Rattle.fields.specs.Largest.{isField, exceeds}
 use Rattle.fields.specs.Set.{pmsicrAfter, set, setLevel}
+use Rattle.listing.proofs.Noted.{Stays}
 use Rattle.machine.proofs.Bools.{chosen}
 use Rattle.machine.specs.declared.Machine.{Machine}
 use Rattle.machine.specs.declared.Outcome.{Outcome}
@@ -95,36 +96,32 @@ module _ (r : Machine) where
       verdict-back 0x8C (r .values .pmsicr) (verdictOf (viewOf r)) (memberOf d (r .settings)) refl
       (samples-back (r .settings .features .spe && r .settings .sampling .profiling) d)
 
-  -- where the outcome is refused, the record stayed
-  abbrev pub Stays : Outcome → Type 0
-  Stays o = isRefused (o .answer) ≡ true → o .machine ≡ r
-
   -- an answer that is no refusal
   no-refusal : {A : Type 0} → false ≡ true → A
   no-refusal e = absurd (true≢false (sym e))
 
-  pub set-stays : (f v : ℕ) → Stays (set f v r)
+  pub set-stays : (f v : ℕ) → Stays r (set f v r)
   unfolding set
   set-stays f v =
       let stored = done (withPmsicr (pmsicrAfter f v r) (store f v r)) in
-      chosen Stays (not (isField f)) (refused UnknownField r) (cond (exceeds v f) (refused ValueTooLarge r) stored) (λ e. refl)
-      (chosen Stays (exceeds v f) (refused ValueTooLarge r) stored (λ e. refl) no-refusal)
+      chosen (Stays r) (not (isField f)) (refused UnknownField r) (cond (exceeds v f) (refused ValueTooLarge r) stored) (λ e. refl)
+      (chosen (Stays r) (exceeds v f) (refused ValueTooLarge r) stored (λ e. refl) no-refusal)
 
-  pub level-stays : (l : ℕ) → Stays (setLevel l r)
+  pub level-stays : (l : ℕ) → Stays r (setLevel l r)
   unfolding setLevel
-  level-stays l = chosen Stays (ltb 3 l) (refused LevelTooLarge r) (done (withLevel l r)) (λ e. refl) no-refusal
+  level-stays l = chosen (Stays r) (ltb 3 l) (refused LevelTooLarge r) (done (withLevel l r)) (λ e. refl) no-refusal
 
-  decision-stays : (d : Decision) → Stays (apply d r)
+  decision-stays : (d : Decision) → Stays r (apply d r)
   unfolding apply
   decision-stays (Says a) = λ e. refl
   decision-stays (Read p rt) = λ e. refl
   decision-stays (Write p x) = no-refusal
   decision-stays (Add mask) = no-refusal
 
-  pub step-stays : (i : Instruction) (x : ℕ) → Stays (stepDecoded i x r)
+  pub step-stays : (i : Instruction) (x : ℕ) → Stays r (stepDecoded i x r)
   step-stays i x = decision-stays (decideDecoded (viewOf r) i x)
 
-  effect-stays : (e : Effect) → Stays (enact e r)
+  effect-stays : (e : Effect) → Stays r (enact e r)
   effect-stays (E′.Says a) = λ e. refl
   effect-stays (E′.Enables x) = no-refusal
   effect-stays E′.ReadOvs = λ e. refl
@@ -156,16 +153,16 @@ module _ (r : Machine) where
       verdict-same (verdictOf (viewOf r)) (readOf (reach false offset (r .settings)) (r .settings))
       (read-of-same (reach false offset (r .settings)))
 
-  pub write-stays : (offset x : ℕ) → Stays (externalWrite offset x r)
+  pub write-stays : (offset x : ℕ) → Stays r (externalWrite offset x r)
   unfolding externalWrite
   write-stays offset x = effect-stays (judge (viewOf r) (Q′.Write offset x))
 
-  pub tick-stays : (p : ℕ) → Stays (tickCommand p r)
+  pub tick-stays : (p : ℕ) → Stays r (tickCommand p r)
   unfolding tick tickCommand
   tick-stays p =
-      chosen Stays (ltb 1 p) (refused ValueTooLarge r) (tick (eqb p 1) r) (λ e. refl)
+      chosen (Stays r) (ltb 1 p) (refused ValueTooLarge r) (tick (eqb p 1) r) (λ e. refl)
       (effect-stays (judge (viewOf r) (Q′.Tick (eqb p 1))))
 
-  pub member-stays : (d : ℕ) → Stays (member d r)
+  pub member-stays : (d : ℕ) → Stays r (member d r)
   unfolding member
   member-stays d = effect-stays (judge (viewOf r) (Q′.Member d))

@@ -1,40 +1,23 @@
--- The list of earlier records, as the words of the undo list stand for it, and what each command puts into the words.
+-- What each command puts into the words of the undo list.
 use Prim.Native.Nat.{ℕ}
 use mathlib.Core.Bool.{cond}
-use mathlib.Core.List.{List, [], _∷_}
+use mathlib.Core.List.{List, []}
 use mathlib.Core.Path.{_≡_}
-use lib.ListN.{take}
 use Rattle.access.specs.declared.Said.{Said}
 use Rattle.access.specs.Lent.{Lent}
 use Rattle.answer.specs.declared.Answer.{Answer}
 use Rattle.answer.specs.Refused.{isRefused}
 use Rattle.command.specs.declared.Command.{Command}
 use Rattle.journal.specs.declared.Entry.{Entry}
-use Rattle.journal.specs.Journal.{capacity, entries, rest}
+use Rattle.journal.specs.Journal.{entries, rest}
+use Rattle.listing.specs.History.{listing}
+use Rattle.listing.specs.Words.{historyBy, responseBy, noted}
 use Rattle.machine.specs.declared.Machine.{Machine}
 use Rattle.machine.specs.declared.Outcome.{Outcome}
 use Rattle.rules.specs.declared.Instruction.{Instruction}
 use Rattle.rules.specs.Step.{stepDecoded}
-use Rattle.undo.specs.declared.Undo.{Undo}
-use Rattle.undo.specs.Undo.{unchanged, held, changeBy, changeDecoded, undoOf, undone}
-use Rattle.execute.specs.Execute.{History, Response, listing, obey}
-
--- MODEL H8: the records before the commands of which these are kept, the latest first, where this is the record after them
-unfoldable pub earlierBy : List Entry → Machine → List Machine
-earlierBy [] m = []
-earlierBy (e ∷ es) m = undone (e .undo) m ∷ earlierBy es (undone (e .undo) m)
-
--- MODEL H9: a record, and the earlier ones that the words of an undo list stand for
-abbrev pub historyBy : Machine → List ℕ → History
-historyBy m words = record { machine = m; earlier = earlierBy (entries words) m }
-
--- MODEL H9: an outcome, and the words of the undo list afterwards
-abbrev pub responseBy : Outcome → List ℕ → Response
-responseBy o words = record { answer = o .answer; kept = historyBy (o .machine) words }
-
--- MODEL H2 and H9: the entries after a command of which this is kept, with a tag, unless it was refused
-abbrev pub noted : Answer → Undo → ℕ → List Entry → List Entry
-noted a u tag es = cond (isRefused a) es (take capacity (record { undo = u; tag = tag } ∷ es))
+use Rattle.undo.specs.Undo.{unchanged, held, changeBy, changeDecoded, undoOf}
+use Rattle.execute.specs.Execute.{obey}
 
 -- MODEL H4, H5, H8 and H9: the entries after a command to the record m that answers a: of a listed one what it may have
 -- changed, with tag 0

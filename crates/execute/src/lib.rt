@@ -1,68 +1,20 @@
 // A command run on the record and on the undo list, whose words are lent.
-ghost use mathlib.Core.Bool.{false, cond};
-ghost use mathlib.Core.List.{[]};
+ghost use mathlib.Core.Bool.{false};
 ghost use mathlib.Core.Path.{_≡_};
-ghost use Rattle.answer.specs.Refused.{isRefused};
 ghost use Rattle.command.specs.Command.{isAccess};
-ghost use Rattle.journal.specs.Journal.{entries, rest};
 ghost use Rattle.machine.specs.Machine.{machineOf};
-ghost use Rattle.execute.specs.Execute.{backFrom, tickCommand};
-ghost use Rattle.execute.specs.Words.{earlierBy, responseBy, Accessed, Executed, noted};
+ghost use Rattle.execute.specs.Execute.{tickCommand};
+ghost use Rattle.execute.specs.Words.{Accessed, Executed};
 use access::Said;
 use answer::Answer;
 use answer::Refusal;
 use command::Command;
-use journal::Entry;
-use journal::Recalled;
 use machine::Machine;
 use machine::Outcome;
 use machine::Settings;
 use machine::Values;
 use rules::Instruction;
 use undo::Undo;
-
-// Lists a command that answers a and of which u is kept, with a tag, unless it was refused.
-pub fn note(a: Answer, u: Undo, tag: u32, list: &mut [u64; 194])
-    ensures { λ r. ⌜ entries (now (list .exit)) ≡ noted a u tag (entries (now (list .entry))) ⌝ }
-{
-    if answer::is_refused(a) {
-        return;
-    }
-    let e = Entry { undo: u, tag: tag };
-    journal::remember(list, e);
-}
-
-// Empties the list after a set command that answers a, unless it was refused.
-fn forget(a: Answer, list: &mut [u64; 194])
-    ensures { λ r. ⌜ entries (now (list .exit)) ≡ cond (isRefused a) (entries (now (list .entry))) [] ⌝ }
-{
-    let refused = answer::is_refused(a);
-    if refused {
-        return;
-    }
-    journal::empty(list);
-}
-
-// The step back: the record before the latest listed command, or refused with 18 where none is listed.
-fn back(r: Machine, list: &mut [u64; 194]) -> Outcome
-    ensures { λ o. ⌜ (responseBy o (now (list .exit)) ≡ backFrom r (earlierBy (entries (now (list .entry))) r))
-        × (entries (now (list .exit)) ≡ rest (entries (now (list .entry)))) ⌝ }
-{
-    let latest = journal::recall(list);
-    match latest {
-        Recalled::Nothing => Outcome {
-            answer: Answer::Refused(Refusal::NothingToUndo),
-            machine: r,
-        },
-        Recalled::Latest(e) => {
-            let u = e.undo;
-            Outcome {
-                answer: Answer::Ok,
-                machine: undo::undone(u, r),
-            }
-        }
-    }
-}
 
 // The access with instruction i, a word taken apart, and operand x to the record with these parts, its counters lent; it is
 // listed unless it is refused.
@@ -92,7 +44,7 @@ pub fn access_decoded(
         level: level,
         ovs: v.ovs,
     };
-    note(a, u, 0, list);
+    listing::note(a, u, 0, list);
     said
 }
 
@@ -109,47 +61,40 @@ fn tick_command(p: u8, r: Machine) -> Outcome
     external::tick(p == 1, r)
 }
 
-// The outcome of a command by value, of which u is kept, listed unless it was refused.
-fn listed(o: Outcome, u: Undo, list: &mut [u64; 194]) -> Outcome
-    ensures { λ r. ⌜ (r ≡ o) × (entries (now (list .exit)) ≡ noted (o .answer) u 0 (entries (now (list .entry)))) ⌝ }
-{
-    let a = o.answer;
-    note(a, u, 0, list);
-    o
-}
-
 // What a command other than an access answers and does to the record and the list.
 pub fn other(c: Command, r: Machine, list: &mut [u64; 194]) -> Outcome
     requires { ⌜ isAccess c ≡ false ⌝ }
     ensures { λ o. ⌜ Executed c r o (now (list .entry)) (now (list .exit)) ⌝ }
 {
     let at = r.level;
-    let v = r.values;
-    let s = r.settings;
+    let ovs = r.values.ovs;
+    let instructions = r.values.instructions;
+    let pmsicr = r.values.pmsicr;
+    let cnten = r.settings.cnten;
     match c {
         Command::Set { field, value } => {
             let o = fields::set::set(field, value, r);
             let a = o.answer;
-            forget(a, list);
+            listing::forget(a, list);
             o
         }
         Command::Level { level } => {
-            let u = undo::kept(undo::NOTHING, 0, at, v.ovs);
-            listed(fields::set::set_level(level, r), u, list)
+            let u = undo::kept(undo::NOTHING, 0, at, ovs);
+            listing::listed(fields::set::set_level(level, r), u, list)
         }
         Command::Read { offset } => external::read(offset, r),
         Command::Write { offset, value } => {
-            let u = undo::kept(0x34, s.cnten, at, v.ovs);
-            listed(external::write(offset, value, r), u, list)
+            let u = undo::kept(0x34, cnten, at, ovs);
+            listing::listed(external::write(offset, value, r), u, list)
         }
         Command::Tick { prohibited } => {
-            let u = undo::kept(0x7F, v.instructions, at, v.ovs);
-            listed(tick_command(prohibited, r), u, list)
+            let u = undo::kept(0x7F, instructions, at, ovs);
+            listing::listed(tick_command(prohibited, r), u, list)
         }
-        Command::Back => back(r, list),
+        Command::Back => listing::back(r, list),
         Command::Member { draw } => {
-            let u = undo::kept(0x8C, v.pmsicr, at, v.ovs);
-            listed(external::member(draw, r), u, list)
+            let u = undo::kept(0x8C, pmsicr, at, ovs);
+            listing::listed(external::member(draw, r), u, list)
         }
         Command::Bad(n) => Outcome {
             answer: Answer::Refused(n),

@@ -17,8 +17,10 @@ use Rattle.answer.specs.declared.Answer.{Answer}
 use Rattle.answer.proofs.Answer as N′
 use Rattle.command.specs.declared.Command.{Command}
 use Rattle.command.specs.Command.{isAccess}
-use Rattle.execute.specs.Execute.{History, Response, obey}
-use Rattle.execute.specs.Words.{historyBy, responseBy, Executed, Accessed}
+use Rattle.execute.specs.Execute.{obey}
+use Rattle.listing.specs.History.{History, Response}
+use Rattle.execute.specs.Words.{Executed, Accessed}
+use Rattle.listing.specs.Words.{historyBy, responseBy}
 use Rattle.execute.proofs.access_decoded as access′
 use Rattle.execute.proofs.other as other′
 use Rattle.machine.specs.declared.Machine.{Machine}

@@ -2,7 +2,8 @@
 use mathlib.Core.List.{map}
 use mathlib.Core.Path.{_≡_, refl}
 use Rattle.bits.specs.Bits.{fromBits}
-use Rattle.execute.specs.Execute.{remember, tickCommand, obey}
+use Rattle.execute.specs.Execute.{tickCommand, obey}
+use Rattle.listing.specs.History.{remember}
 use Rattle.fields.specs.Largest.{largest}
 use Rattle.fields.specs.Set.{set, setLevel, setAll}
 use Rattle.pmsicr.specs.Pmsicr.{implemented, withPrimary, withSecondary, started, secondaryCounts, primaryCounts, counted}

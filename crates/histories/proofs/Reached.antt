@@ -12,7 +12,8 @@ use Rattle.answer.specs.declared.Refusal.the-variants.{FieldTooLarge}
 use Rattle.answer.specs.Refused.{isRefused}
 use Rattle.command.specs.declared.Command.{Command}
 use Rattle.command.specs.Command.{commandOf, sizeAt, isLast}
-use Rattle.execute.specs.Execute.{History, Response, begun, remember, listing, emptying, keeping, backFrom, obey}
+use Rattle.execute.specs.Execute.{obey}
+use Rattle.listing.specs.History.{History, Response, begun, remember, listing, emptying, keeping, backFrom}
 use Rattle.fields.specs.Largest.{largest}
 use Rattle.machine.specs.declared.Machine.{Machine}
 use Rattle.machine.specs.declared.Outcome.{Outcome}

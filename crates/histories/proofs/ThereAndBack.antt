@@ -9,8 +9,10 @@ use lib.ListN.{length, take, length-take, replicate}
 use Rattle.answer.specs.declared.Answer.{Answer}
 use Rattle.answer.specs.Refused.{isRefused}
 use Rattle.command.specs.declared.Command.{Command}
-use Rattle.execute.specs.Execute.{History, remember, listing, keeping, emptying, tickCommand, obey}
-use Rattle.execute.proofs.Taken.{Stays, set-stays, level-stays, step-stays, read-same, write-stays, tick-stays, member-stays}
+use Rattle.execute.specs.Execute.{tickCommand, obey}
+use Rattle.listing.specs.History.{History, remember, listing, keeping, emptying}
+use Rattle.listing.proofs.Noted.{Stays}
+use Rattle.execute.proofs.Taken.{set-stays, level-stays, step-stays, read-same, write-stays, tick-stays, member-stays}
 use Rattle.fields.specs.Set.{set, setLevel}
 use Rattle.journal.specs.Journal.{capacity}
 use Rattle.machine.proofs.Bools.{and-left, and-right}

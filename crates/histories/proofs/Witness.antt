@@ -9,8 +9,10 @@ use Rattle.access.specs.Lent.{Stayed, sayingSo}
 use Rattle.access.proofs.Calls.{asked, stated, any}
 use Rattle.answer.specs.declared.Answer.{Answer}
 use Rattle.command.specs.declared.Command.{Command}
-use Rattle.execute.specs.Execute.{remember, obey}
-use Rattle.execute.specs.Words.{earlierBy, entriesAfter, Executed, Accessed}
+use Rattle.execute.specs.Execute.{obey}
+use Rattle.listing.specs.History.{remember}
+use Rattle.execute.specs.Words.{entriesAfter, Executed, Accessed}
+use Rattle.listing.specs.Words.{earlierBy}
 use Rattle.fields.specs.Largest.{largest}
 use Rattle.fields.specs.Set.{setLevel}
 use Rattle.journal.specs.Journal.{listed, entries}

@@ -9,7 +9,8 @@ use Rattle.answer.specs.Refused.{isRefused}
 use Rattle.command.specs.declared.Command.{Command}
 use Rattle.command.specs.Command.{isSet, isBack}
 use Rattle.journal.specs.Journal.{capacity}
-use Rattle.execute.specs.Execute.{History, obey}
+use Rattle.execute.specs.Execute.{obey}
+use Rattle.listing.specs.History.{History}
 use Rattle.machine.specs.declared.Machine.{Machine}
 
 -- MODEL S2: what commands answer, and record and list after them

@@ -8,7 +8,7 @@ use mathlib.Core.Path.{_≡_}
 use lib.ListN.{replicate}
 use Rattle.answer.specs.declared.Answer.{Answer}
 use Rattle.command.specs.declared.Command.{Command}
-use Rattle.execute.specs.Words.{historyBy}
+use Rattle.listing.specs.Words.{historyBy}
 use Rattle.journal.specs.Journal.{capacity}
 use Rattle.machine.specs.declared.Machine.{Machine}
 use Rattle.histories.specs.Back.{perform, steps, forward, stepsBack}

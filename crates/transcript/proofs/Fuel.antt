@@ -9,7 +9,8 @@ use lib.ListN.{length, drop, length-drop}
 use Rattle.answer.specs.declared.Answer.{Answer}
 use Rattle.command.specs.Command.{commandOf, sizeAt, isLast}
 use Rattle.command.proofs.Sizes.{size-bounds}
-use Rattle.execute.specs.Execute.{History, obey}
+use Rattle.execute.specs.Execute.{obey}
+use Rattle.listing.specs.History.{History}
 use Rattle.transcript.specs.Session.{answersFrom}
 
 one-more : (k : ℕ) (s : List ℕ) (r : History) → length s < k → answersFrom k s r ≡ answersFrom (suc k) s r

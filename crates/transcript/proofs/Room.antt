@@ -11,7 +11,8 @@ use Rattle.answer.specs.declared.Refusal.the-variants.{NothingToUndo}
 use Rattle.command.specs.declared.Command.{Command}
 use Rattle.command.specs.Command.{sizeAt, isLast, isBack}
 use Rattle.command.proofs.Sizes.{size-bounds, two-or-more}
-use Rattle.execute.specs.Execute.{History, backFrom, obey}
+use Rattle.execute.specs.Execute.{obey}
+use Rattle.listing.specs.History.{History, backFrom}
 use Rattle.machine.specs.declared.Machine.{Machine}
 use Rattle.line.specs.Line.{textOf, lineOf}
 use Rattle.text.specs.Text.{bytes, decimal}

@@ -11,7 +11,8 @@ use Rattle.command.specs.declared.Command.{Command}
 use Rattle.command.specs.Command.{commandOf, sizeAt, isLast}
 use Rattle.command.proofs.Sizes.{size-bounds}
 use Rattle.line.specs.Line.{lineOf}
-use Rattle.execute.specs.Execute.{History, Response, begun, obey}
+use Rattle.execute.specs.Execute.{obey}
+use Rattle.listing.specs.History.{History, Response, begun}
 use Rattle.text.specs.Written.{Written}
 use Rattle.text.proofs.Sets.{sets-rest}
 use Rattle.transcript.specs.Session.{answersFrom, linesFrom, answersOf, longest, room}

@@ -10,7 +10,8 @@ use Rattle.command.specs.declared.Command.{Command}
 use Rattle.command.specs.Command.{commandOf, sizeAt, isLast}
 use Rattle.command.proofs.Sizes.{size-bounds}
 use Rattle.line.specs.Line.{lineOf}
-use Rattle.execute.specs.Execute.{History, Response, obey}
+use Rattle.execute.specs.Execute.{obey}
+use Rattle.listing.specs.History.{History, Response}
 use Rattle.text.specs.Written.{Written}
 use Rattle.transcript.specs.Session.{linesFrom, answersOf}
 use Rattle.transcript.proofs.Room.{line-fits}

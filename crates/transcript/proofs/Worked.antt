@@ -15,7 +15,8 @@ use Rattle.rules.specs.Step.{decideRegister, decide, step}
 use Rattle.text.specs.Text.{bytes, decimal, hex}
 use Rattle.command.specs.Command.{commandOf}
 use Rattle.line.specs.Line.{textOf, lineOf}
-use Rattle.execute.specs.Execute.{remember, tickCommand, obey}
+use Rattle.execute.specs.Execute.{tickCommand, obey}
+use Rattle.listing.specs.History.{remember}
 use Rattle.transcript.specs.Session.{answersFrom, linesFrom, answersOf, outputOf}
 use Rattle.transcript.specs.Example.{Example, examples}
 

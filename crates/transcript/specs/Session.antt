@@ -8,7 +8,8 @@ use Rattle.answer.specs.declared.Answer.{Answer}
 use Rattle.answer.specs.declared.Refusal.the-variants.{SessionTooLong}
 use Rattle.transcript.specs.declared.Output.{Output}
 use Rattle.command.specs.Command.{commandOf, sizeAt, isLast}
-use Rattle.execute.specs.Execute.{History, begun, obey}
+use Rattle.execute.specs.Execute.{obey}
+use Rattle.listing.specs.History.{History, begun}
 use Rattle.line.specs.Line.{lineOf}
 
 -- MODEL S2, S4 and V2: the answers of the commands that the bytes hold, from a record and list on, as far as reading goes. The

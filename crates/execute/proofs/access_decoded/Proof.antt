@@ -1,6 +1,6 @@
 -- `execute::access_decoded` meets its contract: the lent step, listed by what is kept of it, which takes it back.
 use Rattle.machine.specs.Machine.{machineOf}
-use Rattle.execute.proofs.Noted.{access-listed}
+use Rattle.execute.proofs.Ran.{access-listed}
 use Rattle.execute.proofs.access_decoded.Statement.{statement}
 use Rattle.execute.proofs.access_decoded.Tie as tie
 

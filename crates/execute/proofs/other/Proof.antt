@@ -1,22 +1,33 @@
 -- `execute::other` meets its contract: a case for each command, by the contracts of what it calls.
-use mathlib.Core.Path.{refl}
+use Prim.Native.Nat.{ℕ}
+use mathlib.Core.List.{List}
+use mathlib.Core.Path.{_≡_, refl, sym, subst}
 use borrow.Author.Needs.{needs}
+use Rattle.command.specs.declared.Command.{Command}
+use Rattle.machine.specs.declared.Machine.{Machine}
+use Rattle.machine.specs.declared.Outcome.{Outcome}
 use Rattle.undo.specs.Undo.{unchanged, held, undoOf}
 use Rattle.execute.specs.Execute.{obey}
-use Rattle.execute.specs.Words.{entriesAfter}
-use Rattle.execute.proofs.Noted.{is-listed, is-emptied, is-kept, same-command}
+use Rattle.execute.specs.Words.{entriesAfter, Executed}
+use Rattle.listing.proofs.Noted.{is-listed, is-emptied, is-kept}
 use Rattle.execute.proofs.Taken.{level-back, write-back, tick-back, member-back}
 use Rattle.execute.proofs.Taken.{set-stays, level-stays, read-same, write-stays, tick-stays, member-stays}
 use Rattle.execute.proofs.Variants.{only-end}
 use Rattle.execute.proofs.other.Statement.{statement}
 use Rattle.execute.proofs.other.Tie as tie
 
+-- what is shown of a command, of another name for it
+same-command :
+    {c d : Command} {r : Machine} {o : Outcome} {words words′ : List ℕ} → c ≡ d → Executed d r o words words′
+    → Executed c r o words words′
+same-command {r = r} {o = o} {words = words} {words′ = words′} e = subst (λ d. Executed d r o words words′) (sym e)
+
 returns : tie.Need-returns
 unfolding obey entriesAfter
 returns c =
     let at-set = c .before .before in
     let at-c = at-set .before .before in
-    let at-start = at-c .before .before .before .before in
+    let at-start = at-c .before .before in
     let r = at-start .args .r in
     same-command (at-c .c .given .1) (record {
       obeyed = is-emptied r (at-start .args .list .now) _ _ (at-set .set .ensures) (set-stays r _ _) (c .forget .ensures);
@@ -29,7 +40,7 @@ returns-2 c =
     let at-set-level = c .before .before in
     let at-kept = at-set-level .before in
     let at-c2 = at-kept .before .before in
-    let at-start = at-c2 .before .before .before .before in
+    let at-start = at-c2 .before .before in
     let r = at-start .args .r in
     let both =
     is-listed r (at-start .args .list .now) _ _ (at-set-level .set-level .ensures) (level-stays r _)
@@ -40,7 +51,7 @@ returns-3 : tie.Need-returns-3
 unfolding obey entriesAfter
 returns-3 c =
     let at-c3 = c .before .before in
-    let at-start = at-c3 .before .before .before .before in
+    let at-start = at-c3 .before .before in
     let r = at-start .args .r in
     same-command (at-c3 .c3 .given .1) (record {
       obeyed = is-kept r (at-start .args .list .now) _ (c .read .ensures) (read-same r _);
@@ -53,7 +64,7 @@ returns-4 c =
     let at-write = c .before .before in
     let at-kept2 = at-write .before in
     let at-c4 = at-kept2 .before .before in
-    let at-start = at-c4 .before .before .before .before in
+    let at-start = at-c4 .before .before in
     let r = at-start .args .r in
     let both =
     is-listed r (at-start .args .list .now) _ _ (at-write .write .ensures) (write-stays r _ _)
@@ -66,7 +77,7 @@ returns-5 c =
     let at-tick-command = c .before .before in
     let at-kept3 = at-tick-command .before in
     let at-c5 = at-kept3 .before .before in
-    let at-start = at-c5 .before .before .before .before in
+    let at-start = at-c5 .before .before in
     let r = at-start .args .r in
     let both =
     is-listed r (at-start .args .list .now) _ _ (at-tick-command .tick-command .ensures) (tick-stays r _)
@@ -85,7 +96,7 @@ returns-7 c =
     let at-member = c .before .before in
     let at-kept4 = at-member .before in
     let at-c6 = at-kept4 .before .before in
-    let at-start = at-c6 .before .before .before .before in
+    let at-start = at-c6 .before .before in
     let r = at-start .args .r in
     let both =
     is-listed r (at-start .args .list .now) _ _ (at-member .member .ensures) (member-stays r _)
@@ -98,9 +109,7 @@ returns-8 c = same-command (c .before .c7 .given .1) (record { obeyed = refl; ke
 
 returns-9 : tie.Need-returns-9
 unfolding obey entriesAfter
-returns-9 c =
-    let at-start = c .before .before .before in
-    same-command (only-end _ (c .match .keys9) (at-start .pre)) (record { obeyed = refl; kept = refl })
+returns-9 c = same-command (only-end _ (c .match .keys9) (c .before .pre)) (record { obeyed = refl; kept = refl })
 
 pub other-spec : {M : Type 1} → statement M
 other-spec =

@@ -10,8 +10,9 @@ use lib.ListN.{length}
 use Rattle.machine.specs.declared.Machine.{Machine}
 use Rattle.machine.specs.Machine.{withCounters}
 use Rattle.machine.specs.Outcome.{says}
-use Rattle.execute.specs.Execute.{History, obey}
-use Rattle.execute.specs.Words.{earlierBy, historyBy, responseBy}
+use Rattle.execute.specs.Execute.{obey}
+use Rattle.listing.specs.History.{History}
+use Rattle.listing.specs.Words.{earlierBy, historyBy, responseBy}
 use Rattle.execute.proofs.Variants.{no-access}
 use Rattle.journal.specs.Journal.{listed, entries}
 use Rattle.execute.proofs.Ran.{access-ran, other-ran}

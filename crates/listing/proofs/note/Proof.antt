@@ -1,7 +1,7 @@
--- `execute::note` meets its contract: a case for each branch, by the contracts of what it calls.
+-- `listing::note` meets its contract: a case for each branch, by the contracts of what it calls.
 use mathlib.Core.Path.{sym, _∙_}
-use Rattle.execute.proofs.note.Statement.{statement}
-use Rattle.execute.proofs.note.Tie as tie
+use Rattle.listing.proofs.note.Statement.{statement}
+use Rattle.listing.proofs.note.Tie as tie
 
 returns : tie.Need-returns
 returns c = simp (sym (c .before .is-refused .ensures) ∙ c .if1 .taken)

@@ -1,7 +1,7 @@
--- `execute::listed` meets its contract, by that of `note`.
+-- `listing::listed` meets its contract, by that of `note`.
 use mathlib.Core.Path.{refl}
-use Rattle.execute.proofs.listed.Statement.{statement}
-use Rattle.execute.proofs.listed.Tie as tie
+use Rattle.listing.proofs.listed.Statement.{statement}
+use Rattle.listing.proofs.listed.Tie as tie
 
 returns : tie.Need-returns
 returns c = (refl, c .note .ensures)

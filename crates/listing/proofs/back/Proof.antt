@@ -1,8 +1,8 @@
--- `execute::back` meets its contract: nothing is listed, or the latest entry is taken back.
+-- `listing::back` meets its contract: nothing is listed, or the latest entry is taken back.
 use borrow.Author.Needs.{needs}
-use Rattle.execute.proofs.Noted.{nothing-back, latest-back}
-use Rattle.execute.proofs.back.Statement.{statement}
-use Rattle.execute.proofs.back.Tie as tie
+use Rattle.listing.proofs.Noted.{nothing-back, latest-back}
+use Rattle.listing.proofs.back.Statement.{statement}
+use Rattle.listing.proofs.back.Tie as tie
 
 returns : tie.Need-returns
 returns c =

@@ -2,28 +2,21 @@
 use Prim.Native.Nat.{ℕ, zero, suc}
 use mathlib.Core.Bool.{Bool, true, false, cond}
 use mathlib.Core.List.{List, [], _∷_}
-use mathlib.Core.Path.{_≡_, refl, sym, _∙_, ap, ap₂, subst}
+use mathlib.Core.Path.{_≡_, refl, sym, _∙_, ap, ap₂}
 use lib.ListN.{take}
-use Rattle.access.specs.declared.Said.{Said}
-use Rattle.access.specs.Lent.{Lent}
 use Rattle.answer.specs.declared.Answer.{Answer}
 use Rattle.answer.specs.declared.Refusal.the-variants.{NothingToUndo}
 use Rattle.answer.specs.Refused.{isRefused}
-use Rattle.command.specs.declared.Command.{Command}
 use Rattle.journal.specs.declared.Entry.{Entry}
 use Rattle.journal.specs.declared.Recalled.{Recalled}
 use Rattle.journal.specs.Journal.{capacity, entries, latest, rest}
 use Rattle.machine.specs.declared.Machine.{Machine}
 use Rattle.machine.specs.declared.Outcome.{Outcome}
 use Rattle.machine.specs.Outcome.{says, refused}
-use Rattle.rules.specs.declared.Instruction.{Instruction}
-use Rattle.rules.specs.Step.{stepDecoded}
 use Rattle.undo.specs.declared.Undo.{Undo}
-use Rattle.undo.specs.Undo.{changeDecoded, undoOf, undone, Typed}
-use Rattle.undo.proofs.Steps.{step-taken-back}
-use Rattle.execute.specs.Execute.{response, remember, listing, emptying, keeping, backFrom}
-use Rattle.execute.specs.Words.{earlierBy, historyBy, responseBy, noted, Executed}
-use Rattle.execute.proofs.Taken.{Stays, step-stays}
+use Rattle.undo.specs.Undo.{undone}
+use Rattle.listing.specs.History.{response, remember, listing, emptying, keeping, backFrom}
+use Rattle.listing.specs.Words.{earlierBy, historyBy, responseBy, noted}
 
 -- the list that is cut is the cut list
 earlier-take : (n : ℕ) (es : List Entry) (m : Machine) → earlierBy (take n es) m ≡ take n (earlierBy es m)
@@ -31,6 +24,10 @@ unfolding earlierBy
 earlier-take zero es m = refl
 earlier-take (suc n) [] m = refl
 earlier-take (suc n) (e ∷ es) m = ap (λ h. undone (e .undo) m ∷ h) (earlier-take n es (undone (e .undo) m))
+
+-- where the outcome is refused, the record stayed
+abbrev pub Stays : Machine → Outcome → Type 0
+Stays r o = isRefused (o .answer) ≡ true → o .machine ≡ r
 
 module _ (r : Machine) (o : Outcome) (stays : Stays r o) (words words′ : List ℕ) where
   -- the entries stay, with a record that stayed
@@ -68,17 +65,6 @@ module _ (r : Machine) (o : Outcome) (stays : Stays r o) (words words′ : List 
       go true s e = same-earlier e (s refl)
       go false s e = ap (λ es. earlierBy es (o .machine)) e
 
--- an access with the counters lent, by what is kept of it
-pub access-listed :
-    (i : Instruction) (x : ℕ) (r : Machine) → Typed (r .counters) → {said : Said} {after : List ℕ}
-    → Lent (stepDecoded i x r) (changeDecoded i x r) said after
-    → (words words′ : List ℕ)
-    → (tag : ℕ) → entries words′ ≡ noted (said .answer) (undoOf (said .change) r) tag (entries words)
-    → responseBy (stepDecoded i x r) words′ ≡ listing (stepDecoded i x r) (historyBy r words)
-access-listed i x r typed l words words′ tag e =
-    listed r (stepDecoded i x r) (step-stays r i x) words words′ (undoOf (changeDecoded i x r) r) tag
-    (step-taken-back r typed i x) (e ∙ (λ k. noted (l .answer k) (undoOf (l .change k) r) tag (entries words)))
-
 -- the same of a call's result o, which the definition says is p
 module _ (r : Machine) (words words′ : List ℕ) {o : Outcome} (p : Outcome) (same : o ≡ p) (stays : Stays r p) where
   pub is-listed :
@@ -98,12 +84,6 @@ module _ (r : Machine) (words words′ : List ℕ) {o : Outcome} (p : Outcome) (
   is-emptied e =
       ap (λ o. responseBy o words′) same
       ∙ emptied r p stays words words′ (e ∙ ap (λ (o : Outcome). cond (isRefused (o .answer)) (entries words) []) same)
-
--- what is shown of a command, of another name for it
-pub same-command :
-    {c d : Command} {r : Machine} {o : Outcome} {words words′ : List ℕ} → c ≡ d → Executed d r o words words′
-    → Executed c r o words words′
-same-command {r = r} {o = o} {words = words} {words′ = words′} e = subst (λ d. Executed d r o words words′) (sym e)
 
 -- a command that changes neither the record nor the list
 pub is-kept :

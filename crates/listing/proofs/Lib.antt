@@ -1,0 +1,2 @@
+-- How the words of the undo list follow a command.
+pub mod Noted

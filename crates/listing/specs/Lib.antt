@@ -1,0 +1,3 @@
+-- The definitions of the crate `listing`.
+pub mod History
+pub mod Words
