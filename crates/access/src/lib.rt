@@ -15,7 +15,8 @@ use rules::Instruction;
 use rules::Place;
 use undo::Change;
 
-// What an access answers, what the record holds after it beside the event counters, and what is kept of it to take it back.
+// What an access answers, what the record holds after it beside the event counters, and the field that is kept of it, with what
+// that held (MODEL H8).
 pub struct Said {
     pub answer: Answer,
     pub values: Values,

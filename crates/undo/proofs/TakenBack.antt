@@ -48,7 +48,7 @@ unfolding decremented incremented
 less-incremented p5 e mask m y h = go (added e mask m)
   where
     go : (b : Bool) → cond b (minusOne (width p5) (cond b (plusOne (width p5) y) y)) (cond b (plusOne (width p5) y) y) ≡ y
-    go true = less-more p5 y h
+    go true = less-more (width p5) y h
     go false = refl
 
 module _ (r : Machine) where
