@@ -1,14 +1,15 @@
 //! Instructions a command of a session, its line among them, through the static
 //! library and by the reference: one row for each kind of command, from the
 //! same settings. A step back is counted as a pair, less the command that it
-//! takes back.
+//! takes back; so the list is short there, and full where that command is
+//! counted alone.
 
 use crate::counted;
 use reference::session;
 use std::hint::black_box;
 
-/// Commands in a session, or pairs: as many again are in the second session of a count. Positions have three digits in both
-/// halves that are compared.
+/// Commands in a session, or pairs: as many again are in the second session of a count. The commands that the second has more,
+/// and both end commands, have positions of three digits.
 const COMMANDS: usize = 100;
 
 /// The bytes of one kind of command.
@@ -94,13 +95,15 @@ fn whole(kind: &Kind, count: usize) -> Vec<u8> {
 pub fn count() {
     let mut out = vec![0; pmu::ROOM];
     for row in rows() {
-        for length in [COMMANDS, 2 * COMMANDS] {
-            let input = whole(&row, length);
-            counted::bench_counted(&mut || pmu::session(black_box(&input), &mut out).map_or(0, |lines| lines.len() as u64));
+        let inputs = [COMMANDS, 2 * COMMANDS].map(|length| whole(&row, length));
+        for input in &inputs {
+            let lines = session::run(input);
+            assert_eq!(pmu::session(input, &mut out), Ok(lines.as_bytes()), "{}", row.name);
+            let length = |lines: Result<&[u8], _>| lines.map_or(0, |lines| lines.len() as u64);
+            counted::bench_counted(&mut || length(pmu::session(black_box(input), &mut out)));
         }
-        for length in [COMMANDS, 2 * COMMANDS] {
-            let input = whole(&row, length);
-            counted::bench_counted(&mut || session::run(black_box(&input)).len() as u64);
+        for input in &inputs {
+            counted::bench_counted(&mut || session::run(black_box(input)).len() as u64);
         }
     }
 }
@@ -117,7 +120,8 @@ pub fn report(totals: &[u64]) -> Result<(), String> {
         let mut proved = (totals[1] - totals[0]) as f64 / COMMANDS as f64;
         let mut reference = (totals[3] - totals[2]) as f64 / COMMANDS as f64;
         if let Some(name) = row.less {
-            let first = counted.iter().find(|first| first.0 == name).ok_or(format!("{}: no row {name}", row.name))?;
+            let first = counted.iter().find(|first| first.0 == name);
+            let first = first.ok_or_else(|| format!("{}: no row {name}", row.name))?;
             proved -= first.1;
             reference -= first.2;
         }

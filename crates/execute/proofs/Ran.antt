@@ -4,12 +4,12 @@ use mathlib.Core.List.{List}
 use mathlib.Core.Path.{_≡_, sym, _∙_, ap}
 use Rattle.access.specs.declared.Said.{Said}
 use Rattle.access.specs.Lent.{Lent}
-use Rattle.access.proofs.Decoded.{by-word, whole-by-word}
+use Rattle.access.proofs.Decoded.{by-word, whole-by-word, lent-by-word}
 use Rattle.answer.specs.declared.Answer.{Answer}
 use Rattle.command.specs.declared.Command.{Command}
 use Rattle.execute.specs.Execute.{obey}
 use Rattle.listing.specs.History.{listing}
-use Rattle.execute.specs.Words.{Accessed}
+use Rattle.execute.specs.Words.{entriesAfter, Accessed}
 use Rattle.journal.specs.Journal.{entries}
 use Rattle.listing.specs.Words.{historyBy, responseBy, noted}
 use Rattle.listing.proofs.Noted.{listed}
@@ -54,6 +54,16 @@ module _ (c : Command) (m : Machine) (words : List ℕ) (a : Answer) (next : Mac
       ∙ l .listed
       ∙ ap (λ o. listing o (historyBy m words)) same
       ∙ sym (ap (λ d. obey d (historyBy m words)) p)
+
+  -- the words then hold what is kept of the access that the word makes
+  pub access-kept :
+      (w x : ℕ) (i : Instruction) (said : Said) (counters left : List ℕ) → i ≡ decode w
+      → Accessed i x m said counters words left
+      → entries left ≡ entriesAfter (Command.Access w x) m (said .answer) (entries words)
+  unfolding entriesAfter
+  access-kept w x i said counters left e l =
+      l .kept
+      ∙ ap (λ k. noted (said .answer) (undoOf k m) 0 (entries words)) (lent-by-word i w x m e said counters (l .lent) .change)
 
   -- of another command, by its outcome
   pub other-ran :

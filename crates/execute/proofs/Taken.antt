@@ -104,7 +104,8 @@ module _ (r : Machine) where
   unfolding set
   set-stays f v =
       let stored = done (withPmsicr (pmsicrAfter f v r) (store f v r)) in
-      chosen (Stays r) (not (isField f)) (refused UnknownField r) (cond (exceeds v f) (refused ValueTooLarge r) stored) (λ e. refl)
+      let unlessLarge = cond (exceeds v f) (refused ValueTooLarge r) stored in
+      chosen (Stays r) (not (isField f)) (refused UnknownField r) unlessLarge (λ e. refl)
       (chosen (Stays r) (exceeds v f) (refused ValueTooLarge r) stored (λ e. refl) no-refusal)
 
   pub level-stays : (l : ℕ) → Stays r (setLevel l r)

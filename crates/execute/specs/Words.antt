@@ -19,8 +19,8 @@ use Rattle.rules.specs.Step.{stepDecoded}
 use Rattle.undo.specs.Undo.{unchanged, held, changeBy, changeDecoded, undoOf}
 use Rattle.execute.specs.Execute.{obey}
 
--- MODEL H4, H5, H8 and H9: the entries after a command to the record m that answers a: of a listed one what it may have
--- changed, with tag 0
+-- MODEL H1 to H5, H8 and X10: the entries after a command to the record m that answers a: of a listed one what it may have
+-- changed, with tag 0; those that stay keep their tags
 unfoldable pub entriesAfter : Command → Machine → Answer → List Entry → List Entry
 entriesAfter Command.End m a es = es
 entriesAfter (Command.Set f v) m a es = cond (isRefused a) es []

@@ -1,5 +1,5 @@
--- Noninterference of `execute::access_decoded`, by which a session makes an access, as `access/specs/Calls.antt` states it, by the
--- induction in `access/proofs/Calls.antt`. All that is known of a call is its contract, as the check takes it from the source;
+-- Noninterference of `execute::access_decoded`, by which a session makes an access, as `access/specs/Calls.antt` states it, by
+-- the induction in `access/proofs/Calls.antt`. All that is known of a call is its contract, as the check takes it from the source;
 -- the words of the undo list may be any, and others for each call.
 use Prim.Native.Nat.{ℕ}
 use mathlib.Core.List.{List}

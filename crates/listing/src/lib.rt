@@ -1,4 +1,4 @@
-// What a command does to the undo list, whose words are lent: it is listed, it empties the list, or it takes the latest step back.
+// What a command does to the undo list, whose words are lent: it is listed, empties the list, or takes the latest step back.
 ghost use mathlib.Core.Bool.{cond};
 ghost use mathlib.Core.List.{[]};
 ghost use mathlib.Core.Path.{_≡_};

@@ -73,6 +73,27 @@ line-requires c κs =
       omega (arith, at-loop .loop .inv .spare),
     )
 
+-- what was read is what was run, and it did what the definition says, whichever way the match went
+module _ (c : tie.At-match-came Inv-loop μ-loop) where
+  same : c .match .c ≡ c .before .before .before .command-of .result
+  same = ⊎-elim (λ w. w .16 ∙ sym (w .1 .given .1)) (λ v. v .8) (c .match .came)
+
+  ran :
+      let loop = c .before .before .before .before .before .loop in
+      responseBy (says (c .match .a) (withCounters (c .match .counters) (c .match .m))) (c .match .list)
+      ≡ obey (c .match .c) (historyBy (withCounters (loop .counters) (loop .m)) (loop .list))
+  ran =
+      let loop = c .before .before .before .before .before .loop in
+      let m = withCounters (loop .counters) (loop .m) in
+      let words = loop .list in
+      ⊎-elim
+      (λ w.
+      access-ran _ m words _ _ _ _ _ _ (w .11 .result) _ _ (w .16) (w .7 .ensures) (w .11 .ensures) (w .17)
+      (ap₂ withCounters (w .14) (w .13)) (w .15))
+      (λ v.
+      other-ran _ m words _ _ _ _ (v .2 .result) _ (v .8) (v .2 .ensures .obeyed) (v .9) (ap₂ withCounters (v .6) (v .5)) (v .7))
+      (c .match .came)
+
 same-length : tie.Need-same-length Inv-loop μ-loop
 same-length c =
     let at-line = c .before .before .before .before in
@@ -85,23 +106,9 @@ returns c =
     let at-match = at-line .before .before in
     let at-size-at = at-match .before in
     let at-command-of = at-size-at .before .before in
-    let at-loop = at-command-of .before .before in
-    let same =
-    ⊎-elim {C = at-match .match .c ≡ at-command-of .command-of .result} (λ w. w .16 ∙ sym (w .1 .given .1)) (λ v. v .8)
-    (at-match .match .came) in
-    let m = withCounters (at-loop .loop .counters) (at-loop .loop .m) in
-    let words = at-loop .loop .list in
-    let ran =
-    ⊎-elim {C =
-    responseBy (says (at-match .match .a) (withCounters (at-match .match .counters) (at-match .match .m))) (at-match .match .list)
-    ≡ obey (at-match .match .c) (historyBy m words)}
-    (λ w.
-    access-ran _ m words _ _ _ _ _ _ (w .11 .result) _ _ (w .16) (w .7 .ensures) (w .11 .ensures) (w .17)
-    (ap₂ withCounters (w .14) (w .13)) (w .15))
-    (λ v. other-ran _ m words _ _ _ _ (v .2 .result) _ (v .8) (v .2 .ensures .obeyed) (v .9) (ap₂ withCounters (v .6) (v .5)) (v .7))
-    (at-match .match .came) in (
-      turn-end (at-loop .loop .inv) (same ∙ at-command-of .command-of .ensures) (at-size-at .size-at .ensures)
-          (c .before .is-last .ensures) ran (at-line .line .ensures .0) (c .if1 .taken),
+    let at-loop = at-command-of .before .before in (
+      turn-end (at-loop .loop .inv) (same at-match ∙ at-command-of .command-of .ensures) (at-size-at .size-at .ensures)
+          (c .before .is-last .ensures) (ran at-match) (at-line .line .ensures .0) (c .if1 .taken),
       omega (arith, at-line .line .ensures .1, at-loop .loop .inv .spare, at-loop .loop .inv .kept),
     )
 
@@ -112,22 +119,8 @@ loop-again c =
     let at-size-at = at-match .before in
     let at-command-of = at-size-at .before .before in
     let at-loop = at-command-of .before .before in
-    let same =
-    ⊎-elim {C = at-match .match .c ≡ at-command-of .command-of .result} (λ w. w .16 ∙ sym (w .1 .given .1)) (λ v. v .8)
-    (at-match .match .came) in
-    let m = withCounters (at-loop .loop .counters) (at-loop .loop .m) in
-    let words = at-loop .loop .list in
-    let ran =
-    ⊎-elim {C =
-    responseBy (says (at-match .match .a) (withCounters (at-match .match .counters) (at-match .match .m))) (at-match .match .list)
-    ≡ obey (at-match .match .c) (historyBy m words)}
-    (λ w.
-    access-ran _ m words _ _ _ _ _ _ (w .11 .result) _ _ (w .16) (w .7 .ensures) (w .11 .ensures) (w .17)
-    (ap₂ withCounters (w .14) (w .13)) (w .15))
-    (λ v. other-ran _ m words _ _ _ _ (v .2 .result) _ (v .8) (v .2 .ensures .obeyed) (v .9) (ap₂ withCounters (v .6) (v .5)) (v .7))
-    (at-match .match .came) in
-    turn-on (at-loop .loop .inv) (same ∙ at-command-of .command-of .ensures) (at-size-at .size-at .ensures)
-    (c .before .is-last .ensures) ran (at-line .line .ensures .0) (at-line .line .ensures .1) (c .if1 .left)
+    turn-on (at-loop .loop .inv) (same at-match ∙ at-command-of .command-of .ensures) (at-size-at .size-at .ensures)
+    (c .before .is-last .ensures) (ran at-match) (at-line .line .ensures .0) (at-line .line .ensures .1) (c .if1 .left)
 
 loop-less : tie.Need-loop-less Inv-loop μ-loop
 loop-less c =
@@ -135,13 +128,10 @@ loop-less c =
     let at-size-at = at-match .before in
     let at-command-of = at-size-at .before .before in
     let at-loop = at-command-of .before .before in
-    let same =
-    ⊎-elim {C = at-match .match .c ≡ at-command-of .command-of .result} (λ w. w .16 ∙ sym (w .1 .given .1)) (λ v. v .8)
-    (at-match .match .came) in
     omega (
       arith,
       loop-again c .within,
-      turn-size (at-loop .loop .inv) (same ∙ at-command-of .command-of .ensures) (at-size-at .size-at .ensures)
+      turn-size (at-loop .loop .inv) (same at-match ∙ at-command-of .command-of .ensures) (at-size-at .size-at .ensures)
           (c .before .is-last .ensures) (c .if1 .left),
     )
 
