@@ -3,7 +3,7 @@
 fn main() {
     let folder = concat!(env!("CARGO_MANIFEST_DIR"), "/../target/staticlib");
     println!("cargo:rustc-link-search=native={folder}");
-    for library in ["measure", "measure_lent", "measure_in_place", "measure_register"] {
+    for library in ["measure", "measure_in_parts", "measure_in_place", "measure_register"] {
         println!("cargo:rustc-link-lib=static={library}");
         println!("cargo:rerun-if-changed={folder}/lib{library}.a");
     }

@@ -12,14 +12,14 @@ use reference::model::{Answer, Machine, Move, Register};
 /// Sets, a list of accesses or words, and every access's operand.
 pub type Loop = fn(&[u64], &[u64], u64) -> u64;
 
-pub const ACCESSES: [Loop; 4] = [by_value, lent, in_place, reference];
+pub const ACCESSES: [Loop; 4] = [by_value, in_parts, in_place, reference];
 
 /// Loops over the words of a list; they look at neither sets nor operand.
 pub const REGISTERS: [Loop; 2] = [register, reference_register];
 
 extern "C" {
     fn measure_by_value(sets: *const u64, count: usize, list: *const u64, length: usize, operand: u64) -> u64;
-    fn measure_lent(sets: *const u64, count: usize, list: *const u64, length: usize, operand: u64) -> u64;
+    fn measure_in_parts(sets: *const u64, count: usize, list: *const u64, length: usize, operand: u64) -> u64;
     fn measure_in_place(sets: *const u64, count: usize, list: *const u64, length: usize, operand: u64) -> u64;
     fn measure_register(list: *const u64, length: usize) -> u64;
 }
@@ -28,8 +28,8 @@ fn by_value(sets: &[u64], list: &[u64], operand: u64) -> u64 {
     unsafe { measure_by_value(sets.as_ptr(), sets.len(), list.as_ptr(), list.len(), operand) }
 }
 
-fn lent(sets: &[u64], list: &[u64], operand: u64) -> u64 {
-    unsafe { measure_lent(sets.as_ptr(), sets.len(), list.as_ptr(), list.len(), operand) }
+fn in_parts(sets: &[u64], list: &[u64], operand: u64) -> u64 {
+    unsafe { measure_in_parts(sets.as_ptr(), sets.len(), list.as_ptr(), list.len(), operand) }
 }
 
 fn in_place(sets: &[u64], list: &[u64], operand: u64) -> u64 {

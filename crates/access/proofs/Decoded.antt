@@ -12,7 +12,7 @@ use Rattle.rules.specs.Step.{decide, step, stepDecoded}
 use Rattle.undo.specs.declared.Change.{Change}
 use Rattle.undo.specs.Undo.{changeBy, changeDecoded}
 use Rattle.access.specs.declared.Said.{Said}
-use Rattle.access.specs.Lent.{Lent}
+use Rattle.access.specs.InParts.{InParts}
 use Rattle.access.proofs.Whole.{whole}
 
 module _ (i : Instruction) (w x : ℕ) (r : Machine) (e : i ≡ decode w) where
@@ -21,15 +21,17 @@ module _ (i : Instruction) (w x : ℕ) (r : Machine) (e : i ≡ decode w) where
   by-word = ap (λ (j : Instruction). (stepDecoded j x r, changeDecoded j x r)) e
 
   module _ (said : Said) (after : List ℕ) where
-    pub lent-by-word : Lent (stepDecoded i x r) (changeDecoded i x r) said after → Lent (step w x r) (changeBy w x r) said after
-    lent-by-word = subst (λ (o : Outcome × Change). Lent (o .0) (o .1) said after) by-word
+    pub parts-by-word :
+        InParts (stepDecoded i x r) (changeDecoded i x r) said after → InParts (step w x r) (changeBy w x r) said after
+    parts-by-word = subst (λ (o : Outcome × Change). InParts (o .0) (o .1) said after) by-word
 
-    pub lent-decoded : Lent (step w x r) (changeBy w x r) said after → Lent (stepDecoded i x r) (changeDecoded i x r) said after
-    lent-decoded = subst⁻¹ (λ (o : Outcome × Change). Lent (o .0) (o .1) said after) by-word
+    pub parts-decoded :
+        InParts (step w x r) (changeBy w x r) said after → InParts (stepDecoded i x r) (changeDecoded i x r) said after
+    parts-decoded = subst⁻¹ (λ (o : Outcome × Change). InParts (o .0) (o .1) said after) by-word
 
     -- the parts put together again
     pub whole-by-word :
-        Lent (stepDecoded i x r) (changeDecoded i x r) said after
+        InParts (stepDecoded i x r) (changeDecoded i x r) said after
         → says (said .answer) (machineOf (r .level) (r .settings) (r .events) after (said .values))
         ≡ step w x r
-    whole-by-word l = whole w x r _ said after (lent-by-word l)
+    whole-by-word l = whole w x r _ said after (parts-by-word l)

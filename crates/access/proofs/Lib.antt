@@ -1,6 +1,6 @@
 -- The laws of the crate `access`, and noninterference of its calls.
 pub mod Whole
 pub mod Calls
-pub mod LentCalls
+pub mod PartsCalls
 pub mod Decoded
 pub mod DecodedCalls

@@ -10,10 +10,10 @@ use Rattle.rules.specs.Step.{decide, step}
 use Rattle.rules.proofs.Applied.{rest-stays}
 use Rattle.undo.specs.declared.Change.{Change}
 use Rattle.access.specs.declared.Said.{Said}
-use Rattle.access.specs.Lent.{Lent}
+use Rattle.access.specs.InParts.{InParts}
 
 pub whole :
-    (w x : ℕ) (r : Machine) (k : Change) (said : Said) (after : List ℕ) → Lent (step w x r) k said after
+    (w x : ℕ) (r : Machine) (k : Change) (said : Said) (after : List ℕ) → InParts (step w x r) k said after
     → says (said .answer) (machineOf (r .level) (r .settings) (r .events) after (said .values)) ≡ step w x r
 unfolding step
 whole w x r k said after l =

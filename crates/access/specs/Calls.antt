@@ -1,9 +1,9 @@
--- Demand 3 of the code itself: runs of calls of which nothing is known but the contract of each call, and what is claimed of two
--- such runs. Nothing here depends on a proof. A contract as the check takes it from the source can be named in
--- proofs/ only, so one definition more is to be read there for each step: `Call`, in proofs/Calls.antt for `access::step`, in
--- proofs/LentCalls.antt for `access::lent`, in proofs/DecodedCalls.antt for `access::lent_decoded`, in proofs/Calls.antt of
--- `in_place` for `in_place::step`, and in proofs/AccessCalls.antt of `histories`, with `Access` of its Calls.antt, for
--- `execute::access_decoded`.
+-- Demand 3 of the code itself: runs of calls of which nothing is known but the contract of each call, and what is claimed of
+-- two such runs. Nothing here depends on a proof. A contract as the check takes it from the source can be named in proofs/
+-- only, so one definition more is to be read there for each step: `Call`, in proofs/Calls.antt for `access::step`, in
+-- proofs/PartsCalls.antt for `access::in_parts`, in proofs/DecodedCalls.antt for `access::in_parts_decoded`, in
+-- proofs/Calls.antt of `in_place` for `in_place::step`, and in proofs/AccessCalls.antt of `histories`, with `Access` of its
+-- Calls.antt, for `execute::access_decoded`.
 use Prim.Native.Nat.{ℕ}
 use mathlib.Core.Bool.{Bool, true}
 use mathlib.Core.List.{List, [], _∷_}

@@ -1,3 +1,3 @@
 -- The definitions of the crate `access`.
-pub mod Lent
+pub mod InParts
 pub mod Calls

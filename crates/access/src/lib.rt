@@ -1,7 +1,7 @@
-// The access: decide, by a view in which there is no counter, then apply. `lent` has the counters of a record lent and changed
-// there, and `lent_decoded` so of a word that is taken apart already; `step` takes and returns a record by value.
+// The access: decide, by a view in which there is no counter, then apply. `in_parts` has the counters of a record lent and
+// changed there, and `in_parts_decoded` so of a word that is taken apart already; `step` takes and returns a record by value.
 ghost use mathlib.Core.Path.{_≡_};
-ghost use Rattle.access.specs.Lent.{Lent, Shown, Put, Applied};
+ghost use Rattle.access.specs.InParts.{InParts, Shown, Put, Applied};
 ghost use Rattle.machine.specs.Machine.{machineOf};
 ghost use Rattle.rules.specs.Step.{step, stepDecoded};
 ghost use Rattle.undo.specs.Undo.{changeBy, changeDecoded};
@@ -88,7 +88,7 @@ fn apply(d: Decision, counters: &mut [u64], events: &[u16], s: Settings, v: Valu
 }
 
 // The access with instruction i, a word taken apart, and operand x to the record with these parts, its counters lent.
-pub fn lent_decoded(
+pub fn in_parts_decoded(
     counters: &mut [u64; 31],
     events: &[u16; 31],
     s: Settings,
@@ -97,7 +97,7 @@ pub fn lent_decoded(
     i: Instruction,
     x: u64,
 ) -> Said
-    ensures { λ said. ⌜ Lent
+    ensures { λ said. ⌜ InParts
         (stepDecoded i x (machineOf level s (now (events .entry)) (now (counters .entry)) v))
         (changeDecoded i x (machineOf level s (now (events .entry)) (now (counters .entry)) v))
         said
@@ -108,7 +108,7 @@ pub fn lent_decoded(
 }
 
 // The access with word w and operand x to the record with these parts, its counters lent.
-pub fn lent(
+pub fn in_parts(
     counters: &mut [u64; 31],
     events: &[u16; 31],
     s: Settings,
@@ -117,7 +117,7 @@ pub fn lent(
     w: u32,
     x: u64,
 ) -> Said
-    ensures { λ said. ⌜ Lent
+    ensures { λ said. ⌜ InParts
         (step w x (machineOf level s (now (events .entry)) (now (counters .entry)) v))
         (changeBy w x (machineOf level s (now (events .entry)) (now (counters .entry)) v))
         said
@@ -135,7 +135,7 @@ pub fn step(w: u32, x: u64, mut r: Machine) -> Outcome
     let settings = r.settings;
     let level = r.level;
     let values = r.values;
-    let said = lent(&mut r.counters, &events, settings, level, values, w, x);
+    let said = in_parts(&mut r.counters, &events, settings, level, values, w, x);
     let answer = said.answer;
     let after = said.values;
     r.values = after;

@@ -3,8 +3,8 @@ use Prim.Native.Nat.{ℕ}
 use mathlib.Core.List.{List}
 use mathlib.Core.Path.{_≡_, sym, _∙_, ap}
 use Rattle.access.specs.declared.Said.{Said}
-use Rattle.access.specs.Lent.{Lent}
-use Rattle.access.proofs.Decoded.{by-word, whole-by-word, lent-by-word}
+use Rattle.access.specs.InParts.{InParts}
+use Rattle.access.proofs.Decoded.{by-word, whole-by-word, parts-by-word}
 use Rattle.answer.specs.declared.Answer.{Answer}
 use Rattle.command.specs.declared.Command.{Command}
 use Rattle.execute.specs.Execute.{obey}
@@ -27,7 +27,7 @@ use Rattle.execute.proofs.Taken.{step-stays}
 -- an access with the counters lent, by what is kept of it
 pub access-listed :
     (i : Instruction) (x : ℕ) (r : Machine) → Typed (r .counters) → {said : Said} {after : List ℕ}
-    → Lent (stepDecoded i x r) (changeDecoded i x r) said after
+    → InParts (stepDecoded i x r) (changeDecoded i x r) said after
     → (words words′ : List ℕ)
     → (tag : ℕ) → entries words′ ≡ noted (said .answer) (undoOf (said .change) r) tag (entries words)
     → responseBy (stepDecoded i x r) words′ ≡ listing (stepDecoded i x r) (historyBy r words)
@@ -47,7 +47,7 @@ module _ (c : Command) (m : Machine) (words : List ℕ) (a : Answer) (next : Mac
       → responseBy (says a next) words′ ≡ obey c (historyBy m words)
   unfolding obey
   access-ran w x i said counters left p e l q r t =
-      let ran = whole-by-word i w x m e said counters (l .lent) in
+      let ran = whole-by-word i w x m e said counters (l .parts) in
       let same = ap (λ o. o .0) (by-word i w x m e) in
       (λ k. responseBy (says (q k) (r k)) (t k))
       ∙ ap (λ o. responseBy o left) (ran ∙ sym same)
@@ -63,7 +63,7 @@ module _ (c : Command) (m : Machine) (words : List ℕ) (a : Answer) (next : Mac
   unfolding entriesAfter
   access-kept w x i said counters left e l =
       l .kept
-      ∙ ap (λ k. noted (said .answer) (undoOf k m) 0 (entries words)) (lent-by-word i w x m e said counters (l .lent) .change)
+      ∙ ap (λ k. noted (said .answer) (undoOf k m) 0 (entries words)) (parts-by-word i w x m e said counters (l .parts) .change)
 
   -- of another command, by its outcome
   pub other-ran :

@@ -4,7 +4,7 @@ use mathlib.Core.Bool.{cond}
 use mathlib.Core.List.{List, []}
 use mathlib.Core.Path.{_≡_}
 use Rattle.access.specs.declared.Said.{Said}
-use Rattle.access.specs.Lent.{Lent}
+use Rattle.access.specs.InParts.{InParts}
 use Rattle.answer.specs.declared.Answer.{Answer}
 use Rattle.answer.specs.Refused.{isRefused}
 use Rattle.command.specs.declared.Command.{Command}
@@ -41,6 +41,6 @@ pub record Executed (c : Command) (m : Machine) (o : Outcome) (words words′ : 
 
 -- MODEL X4 and X10: an access with the counters lent, and the words of the undo list before and after it
 pub record Accessed (i : Instruction) (x : ℕ) (m : Machine) (said : Said) (after words words′ : List ℕ) : Type 0 where
-  pub lent : Lent (stepDecoded i x m) (changeDecoded i x m) said after
+  pub parts : InParts (stepDecoded i x m) (changeDecoded i x m) said after
   pub listed : responseBy (stepDecoded i x m) words′ ≡ listing (stepDecoded i x m) (historyBy m words)
   pub kept : entries words′ ≡ noted (said .answer) (undoOf (said .change) m) 0 (entries words)

@@ -36,7 +36,7 @@ pub fn access_decoded(
         (now (list .exit)) ⌝ }
 {
     undo::typed(counters);
-    let said = access::lent_decoded(counters, events, s, level, v, i, x);
+    let said = access::in_parts_decoded(counters, events, s, level, v, i, x);
     let a = said.answer;
     let change = said.change;
     let u = Undo {

@@ -1,16 +1,16 @@
 -- Noninterference of `execute::access_decoded`, by which a session makes an access, as `access/specs/Calls.antt` states it, by
--- the induction in `access/proofs/Calls.antt`. All that is known of a call is its contract, as the check takes it from the source;
--- the words of the undo list may be any, and others for each call.
+-- the induction in `access/proofs/Calls.antt`. All that is known of a call is its contract, as the check takes it from the
+-- source; the words of the undo list may be any, and others for each call.
 use Prim.Native.Nat.{ℕ}
 use mathlib.Core.List.{List}
 use mathlib.Core.Logic.{∥∥₁-map}
 use mathlib.Core.Path.{refl}
 use borrow.Fn.World.{World}
 use Rattle.access.specs.Calls.{MayGive, CallsRun, CallsNoninterference}
-use Rattle.access.specs.Lent.{sayingSo}
+use Rattle.access.specs.InParts.{sayingSo}
 use Rattle.access.proofs.Calls.{asked, said, Only, only-calls-run, only-noninterference}
-use Rattle.access.proofs.LentCalls.{only-step}
-use Rattle.access.proofs.Decoded.{lent-by-word}
+use Rattle.access.proofs.PartsCalls.{only-step}
+use Rattle.access.proofs.Decoded.{parts-by-word}
 use Rattle.execute.specs.Words.{Accessed}
 use Rattle.rules.specs.Word.{decode}
 use Rattle.histories.proofs.Calls.{Access}
@@ -25,7 +25,7 @@ call-only m w x r answer after c =
     only-step w x r answer after (call .4) (call .3)
     (∥∥₁-map
     (said m (Accessed (decode w) x r (sayingSo answer after (call .3)) (after .counters) (c .0) (c .1)) (call .5 tt (asked m)))
-    (λ a. lent-by-word (decode w) w x r refl _ _ (a .lent)))
+    (λ a. parts-by-word (decode w) w x r refl _ _ (a .parts)))
 
 -- the calls of `execute::access_decoded` answer and leave what `run` says
 pub calls-are-run : (m : World) → CallsRun (Call m)

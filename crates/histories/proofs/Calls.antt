@@ -11,7 +11,7 @@ use base.Stored.{coded-set}
 use borrow.Fn.World.{World}
 use ghost.Sets.{retract-set}
 use Rattle.access.specs.Calls.{Obeyed, Reference, to}
-use Rattle.access.specs.Lent.{Stayed, sayingSo}
+use Rattle.access.specs.InParts.{Stayed, sayingSo}
 use Rattle.access.proofs.Calls.{asked, said, stated}
 use Rattle.answer.specs.declared.Answer.{Answer}
 use Rattle.answer.proofs.Answer as N′

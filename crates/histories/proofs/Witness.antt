@@ -5,7 +5,7 @@ use mathlib.Core.List.{List, [], _∷_}
 use mathlib.Core.Path.{refl}
 use borrow.Fn.World.{World}
 use lib.ListN.{replicate}
-use Rattle.access.specs.Lent.{Stayed, sayingSo}
+use Rattle.access.specs.InParts.{Stayed, sayingSo}
 use Rattle.access.proofs.Calls.{asked, stated, any}
 use Rattle.answer.specs.declared.Answer.{Answer}
 use Rattle.command.specs.declared.Command.{Command}
@@ -69,7 +69,7 @@ module _ (w : World) where
       (next {c = Command.Access 0xD53BE882 0}
       (access-may 0xD53BE882 0 el1 (words 1 1 0xFF 0) Answer.Undef el1 (words 2 2 0xFF 0x1FF) unchanged refl
       (record {
-        lent = record { answer = refl; values = refl; counters = refl; change = refl };
+        parts = record { answer = refl; values = refl; counters = refl; change = refl };
         listed = refl;
         kept = refl;
       }))

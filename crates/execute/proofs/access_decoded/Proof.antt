@@ -6,14 +6,14 @@ use Rattle.execute.proofs.access_decoded.Tie as tie
 
 returns : tie.Need-returns
 returns c =
-    let at-lent-decoded = c .before .before .before in
-    let at-typed = at-lent-decoded .before .before in
+    let at-in-parts-decoded = c .before .before .before in
+    let at-typed = at-in-parts-decoded .before .before in
     let args = at-typed .before .before .before .args in
     let m = machineOf (args .level) (args .s) (args .events .now) (args .counters .now) (args .v) in
-    let lent = at-lent-decoded .lent-decoded .ensures in
+    let parts = at-in-parts-decoded .in-parts-decoded .ensures in
     record {
-      lent = lent;
-      listed = access-listed (args .i) (args .x) m (at-typed .typed .ensures) lent (args .list .now) _ 0 (c .note .ensures);
+      parts = parts;
+      listed = access-listed (args .i) (args .x) m (at-typed .typed .ensures) parts (args .list .now) _ 0 (c .note .ensures);
       kept = c .note .ensures;
     }
 

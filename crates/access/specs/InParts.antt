@@ -17,7 +17,7 @@ use Rattle.access.specs.declared.Said.{Said}
 
 -- MODEL X4 and H8: what is said and what the counters then hold is the outcome, and what is kept of the access goes with it;
 -- level, settings and event numbers stay with the caller
-pub record Lent (o : Outcome) (kept : Change) (said : Said) (after : List ℕ) : Type 0 where
+pub record InParts (o : Outcome) (kept : Change) (said : Said) (after : List ℕ) : Type 0 where
   pub answer : said .answer ≡ o .answer
   pub values : said .values ≡ o .machine .values
   pub counters : after ≡ o .machine .counters
@@ -36,7 +36,7 @@ Put p x s c v c′ v′ =
 
 -- MODEL X4: a decision applied to the record with these settings, event numbers, counters and values, whatever its level
 abbrev pub Applied : Decision → Settings → List ℕ → List ℕ → Values → Said → List ℕ → Type 0
-Applied d s e c v said after = (l : ℕ) → Lent (apply d (machineOf l s e c v)) (changeOf d (machineOf l s e c v)) said after
+Applied d s e c v said after = (l : ℕ) → InParts (apply d (machineOf l s e c v)) (changeOf d (machineOf l s e c v)) said after
 
 -- MODEL X4: the record after a call has the counters that it left, and its values; the rest of it stayed with the caller
 abbrev pub Stayed : Machine → Machine → Type 0

@@ -1,4 +1,4 @@
--- `measure_lent` meets its contract: what the entries passed added, and what those left will add, is the whole.
+-- `measure_in_parts` meets its contract: what the entries passed added, and what those left will add, is the whole.
 use Prim.Native.Nat.{ℕ, _+_, _-_, _/_, _%_, _^_, _<_, _≤_}
 use mathlib.Core.Path.{_≡_, sym, _∙_, ap}
 use native.Mathlib.Omega.{arith}
@@ -8,8 +8,8 @@ use Rattle.machine.specs.Machine.{withLevel}
 use Rattle.access.proofs.Decoded.{whole-by-word}
 use Rattle.measure.specs.Measure.{started, total}
 use Rattle.measure.proofs.Total.{summed, summed-all, summed-next, summed-done}
-use Rattle.measure_lent.proofs.measure_lent.Statement.{statement}
-use Rattle.measure_lent.proofs.measure_lent.Tie as tie
+use Rattle.measure_in_parts.proofs.measure_in_parts.Statement.{statement}
+use Rattle.measure_in_parts.proofs.measure_in_parts.Tie as tie
 
 abbrev Inv-loop : tie.InvT-loop
 Inv-loop sets list x registers m₀ sum₀ k₀ m sum k =
@@ -56,8 +56,8 @@ loop-less c = omega arith
 
 loop-again : tie.Need-loop-again Inv-loop μ-loop
 loop-again c =
-    let at-lent-decoded = c .before .before .before in
-    let at-decode-by = at-lent-decoded .before .before .before in
+    let at-in-parts-decoded = c .before .before .before in
+    let at-decode-by = at-in-parts-decoded .before .before .before in
     let at-loop-test = at-decode-by .before .before .before .before .before .before in
     let at-loop = at-loop-test .before in
     let at-start = at-loop .before .before .before .before .before in
@@ -66,8 +66,8 @@ loop-again c =
       omega (arith, c .wrapping-add-u64 .ensures),
       summed-next (at-start .args .list .now) (at-start .args .x) (at-loop .loop .m) (at-loop .loop .sum)
           (at-loop-test .loop-test .taken)
-          (whole-by-word _ _ _ before (at-decode-by .decode-by .ensures) (at-lent-decoded .lent-decoded .result) _
-          (at-lent-decoded .lent-decoded .ensures))
+          (whole-by-word _ _ _ before (at-decode-by .decode-by .ensures) (at-in-parts-decoded .in-parts-decoded .result) _
+          (at-in-parts-decoded .in-parts-decoded .ensures))
           (c .wrapping-add-u64 .ensures ∙ ap (λ (n : ℕ). (at-loop .loop .sum + n) % 2 ^ 64) (c .before .worth .ensures))
           ∙ at-loop .loop .inv .2,
     )
@@ -80,8 +80,8 @@ returns c =
     sym (summed-done (args .list .now) (args .x) (at-loop .loop .m) (c .loop-test .left) (at-loop .loop .inv .1))
     ∙ at-loop .loop .inv .2
 
-pub measure-lent-spec : {M : Type 1} → statement M
-measure-lent-spec =
+pub measure-in-parts-spec : {M : Type 1} → statement M
+measure-in-parts-spec =
     tie.close
     (tie.spec
     Inv-loop

@@ -6,7 +6,7 @@ ghost use Rattle.measure.specs.Measure.{started, total};
 
 // The sum of a list's answers.
 #[no_mangle]
-pub extern "C" fn measure_lent(sets: &[u64], list: &[u64], x: u64) -> u64
+pub extern "C" fn measure_in_parts(sets: &[u64], list: &[u64], x: u64) -> u64
     ensures { λ s. ⌜ s ≡ total (now (list .entry)) x (started (now (sets .entry))) ⌝ }
 {
     let registers = word::table::registers();
@@ -20,7 +20,15 @@ pub extern "C" fn measure_lent(sets: &[u64], list: &[u64], x: u64) -> u64
         let settings = m.settings;
         let values = m.values;
         let i = word::decode_by(&registers, (c % 0x100000000) as u32);
-        let said = access::lent_decoded(&mut m.counters, &events, settings, level, values, i, x);
+        let said = access::in_parts_decoded(
+            &mut m.counters,
+            &events,
+            settings,
+            level,
+            values,
+            i,
+            x,
+        );
         m.level = level;
         let after = said.values;
         m.values = after;

@@ -1,8 +1,8 @@
--- `access::lent` meets its contract: the decision on the record's view, applied.
+-- `access::in_parts` meets its contract: the decision on the record's view, applied.
 use Rattle.state.specs.State.{viewOf}
 use Rattle.rules.specs.Step.{step}
-use Rattle.access.proofs.lent.Statement.{statement}
-use Rattle.access.proofs.lent.Tie as tie
+use Rattle.access.proofs.in_parts.Statement.{statement}
+use Rattle.access.proofs.in_parts.Tie as tie
 
 returns : tie.Need-returns
 unfolding step viewOf
@@ -12,5 +12,5 @@ returns c =
     let at-start = at-view-at .before .before .before in
     simp (at-decide .decide .ensures, at-view-at .view-at .ensures) at (c .apply .ensures (at-start .args .level))
 
-pub lent-spec : {M : Type 1} → statement M
-lent-spec = tie.close (tie.spec (λ c κs. tt) (λ c κs. tt) (λ c κs. tt) returns)
+pub in-parts-spec : {M : Type 1} → statement M
+in-parts-spec = tie.close (tie.spec (λ c κs. tt) (λ c κs. tt) (λ c κs. tt) returns)
