@@ -2,3 +2,4 @@
 pub mod Front
 pub mod Operands
 pub mod Sizes
+pub mod Fuel

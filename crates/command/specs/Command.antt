@@ -1,5 +1,5 @@
 -- Commands out of a session's bytes: which there are, how many bytes each takes, and which is the last.
-use Prim.Native.Nat.{ℕ, _+_, _*_}
+use Prim.Native.Nat.{ℕ, zero, suc, _+_, _*_}
 use mathlib.Core.Bool.{Bool, true, false, cond}
 use mathlib.Core.List.{List, [], _∷_}
 use lib.Dec.{ltb, eqb}
@@ -69,6 +69,18 @@ isLast (Command.Tick p) = false
 isLast Command.Back = false
 isLast (Command.Member d) = false
 isLast (Command.Bad r) = true
+
+-- MODEL S4 and V2: the commands that the bytes hold, as far as reading goes. The number bounds how many are read: a command takes
+-- a byte or more
+unfoldable pub commandsFrom : ℕ → List ℕ → List Command
+commandsFrom zero s = []
+commandsFrom (suc n) s =
+    let c = commandOf s in
+    c ∷ cond (isLast c) [] (commandsFrom n (drop (sizeAt s) s))
+
+-- MODEL S4 and V2: the commands of a session
+unfoldable pub commandsOf : List ℕ → List Command
+commandsOf s = commandsFrom (suc (length s)) s
 
 -- MODEL S1: the command is an access
 abbrev pub isAccess : Command → Bool

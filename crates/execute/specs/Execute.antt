@@ -1,6 +1,7 @@
 -- What each command does to the record and to the list of earlier records.
 use Prim.Native.Nat.{ℕ}
 use mathlib.Core.Bool.{cond}
+use mathlib.Core.List.{List, [], _∷_}
 use lib.Dec.{ltb, eqb}
 use Rattle.answer.specs.declared.Answer.{Answer}
 use Rattle.answer.specs.declared.Refusal.the-variants.{ValueTooLarge}
@@ -29,3 +30,16 @@ obey (Command.Tick p) k = listing (tickCommand p (k .machine)) k
 obey Command.Back k = backFrom (k .machine) (k .earlier)
 obey (Command.Member d) k = listing (member d (k .machine)) k
 obey (Command.Bad n) k = keeping (refused n (k .machine)) k
+
+-- MODEL S2: what commands answer, and record and list after them
+pub record Performed : Type 0 where
+  pub answers : List Answer
+  pub left : History
+
+-- MODEL S2: commands run one after another, each on the record and the list that the one before it left
+unfoldable pub perform : List Command → History → Performed
+perform [] k = record { answers = []; left = k }
+perform (c ∷ cs) k =
+    let o = obey c k in
+    let then = perform cs (o .left) in
+    record { answers = o .answer ∷ then .answers; left = then .left }

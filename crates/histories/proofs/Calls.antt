@@ -1,7 +1,7 @@
 -- Commands, and steps back, by calls of the code, as specs/Calls.antt states it. All that is known of a call is the contract of
 -- `execute::access_decoded` or `execute::other`, as the check takes it from the source: were one weaker, `does` would be
 -- refused.
-use Prim.Native.Nat.{ℕ}
+use Prim.Native.Nat.{ℕ, _-_}
 use mathlib.Core.Bool.{false}
 use mathlib.Core.HLevel.{×-prop, Σ-set}
 use mathlib.Core.List.{List, _∷_, List·isSet}
@@ -10,6 +10,7 @@ use mathlib.Core.Path.{_≡_, refl, _∙_, ap}
 use base.Stored.{coded-set}
 use borrow.Fn.World.{World}
 use ghost.Sets.{retract-set}
+use lib.ListN.{take}
 use Rattle.access.specs.Calls.{Obeyed, Reference, to}
 use Rattle.access.specs.InParts.{Stayed, sayingSo}
 use Rattle.access.proofs.Calls.{asked, said, stated}
@@ -17,19 +18,20 @@ use Rattle.answer.specs.declared.Answer.{Answer}
 use Rattle.answer.proofs.Answer as N′
 use Rattle.command.specs.declared.Command.{Command}
 use Rattle.command.specs.Command.{isAccess}
-use Rattle.execute.specs.Execute.{obey}
+use Rattle.execute.specs.Execute.{obey, perform}
 use Rattle.listing.specs.History.{History, Response}
 use Rattle.execute.specs.Words.{Executed, Accessed}
 use Rattle.listing.specs.Words.{historyBy, responseBy}
 use Rattle.execute.proofs.access_decoded as access′
 use Rattle.execute.proofs.other as other′
+use Rattle.journal.specs.Journal.{capacity}
 use Rattle.machine.specs.declared.Machine.{Machine}
 use Rattle.machine.specs.Outcome.{says}
 use Rattle.machine.proofs.Machine as M′
 use Rattle.rules.specs.Word.{decode}
 use Rattle.execute.proofs.Ran.{access-ran}
 use Rattle.undo.specs.declared.Change.{Change}
-use Rattle.histories.specs.Back.{perform, steps, stepsBack}
+use Rattle.histories.specs.Back.{steps, stepsBack}
 use Rattle.histories.specs.Calls.{MayGive, Run, none, next, CallsPerform, CallsThereAndBack}
 use Rattle.histories.proofs.ThereAndBack.{there-and-back}
 
@@ -65,18 +67,17 @@ Access w word x m words answer left between =
     (left .counters, (tt, (tt, (tt, (tt, (tt, (tt, (between, tt))))))))
     (sayingSo answer left k)
 
--- the call for a command
-abbrev pub Call : World → MayGive
-Call w Command.End = Other w Command.End
-Call w (Command.Set f v) = Other w (Command.Set f v)
-Call w (Command.Level l) = Other w (Command.Level l)
-Call w (Command.Access word x) = Access w word x
-Call w (Command.Read o) = Other w (Command.Read o)
-Call w (Command.Write o x) = Other w (Command.Write o x)
-Call w (Command.Tick p) = Other w (Command.Tick p)
-Call w Command.Back = Other w Command.Back
-Call w (Command.Member d) = Other w (Command.Member d)
-Call w (Command.Bad n) = Other w (Command.Bad n)
+-- a call for a command: of `execute::access_decoded` for an access, of `execute::other` for any other
+pub data Call (w : World) : Command → Machine → List ℕ → Answer → Machine → List ℕ → Type 1 where
+  access :
+      {word x : ℕ} {m left : Machine} {words between : List ℕ} {answer : Answer}
+      → Access w word x m words answer left between
+      → Call w (Command.Access word x) m words answer left between
+  other :
+      {c : Command} {m left : Machine} {words between : List ℕ} {answer : Answer}
+      → isAccess c ≡ false
+      → Other w c m words answer left between
+      → Call w c m words answer left between
 
 module _ (w : World) where
   -- a call does what the definition says
@@ -105,19 +106,11 @@ module _ (w : World) where
       (call .4) refl)
 
   does :
-      (c : Command) (m : Machine) (words : List ℕ) (answer : Answer) (left : Machine) (between : List ℕ)
+      {c : Command} {m left : Machine} {words between : List ℕ} {answer : Answer}
       → Call w c m words answer left between
       → Does c m words answer left between
-  does Command.End = other-does Command.End refl
-  does (Command.Set f v) = other-does (Command.Set f v) refl
-  does (Command.Level l) = other-does (Command.Level l) refl
-  does (Command.Access word x) = access-does word x
-  does (Command.Read o) = other-does (Command.Read o) refl
-  does (Command.Write o x) = other-does (Command.Write o x) refl
-  does (Command.Tick p) = other-does (Command.Tick p) refl
-  does Command.Back = other-does Command.Back refl
-  does (Command.Member d) = other-does (Command.Member d) refl
-  does (Command.Bad n) = other-does (Command.Bad n) refl
+  does (access call) = access-does _ _ _ _ _ _ _ call
+  does (other n call) = other-does _ n _ _ _ _ _ call
 
   -- so a run of calls answers and leaves what the commands, run by the definition, do
   Performs : List Command → Machine → List ℕ → List Answer → Machine → List ℕ → Type 0
@@ -131,12 +124,12 @@ module _ (w : World) where
   unfolding perform Does Performs
   performs none = ∣ (refl, refl) ∣₁
   performs (next {c = c} {cs = cs} call more) =
-      ∥∥₁-elim (does c _ _ _ _ _ call) ∥∥₁-prop
+      ∥∥₁-elim (does call) ∥∥₁-prop
       (λ e.
       ∥∥₁-map (performs more)
       (λ p. (
-        (λ i. e i .answer ∷ (p .0 ∙ ap (λ (o : Response). perform cs (o .kept) .answers) e) i),
-        p .1 ∙ ap (λ (o : Response). perform cs (o .kept) .left) e,
+        (λ i. e i .answer ∷ (p .0 ∙ ap (λ (o : Response). perform cs (o .left) .answers) e) i),
+        p .1 ∙ ap (λ (o : Response). perform cs (o .left) .left) e,
       )))
 
   -- a record and a list are equal in one way at most
@@ -160,4 +153,7 @@ module _ (w : World) where
       let brought = there-and-back cs (historyBy m words) f l in (
         b .0 ∙ ap (λ k. perform (stepsBack n) k .answers) t ∙ brought .answers,
         ap (λ (k : History). k .machine) (b .1) ∙ ap (λ k. perform (stepsBack n) k .left .machine) t ∙ brought .machine,
+        ap (λ (k : History). take (capacity - n) (k .earlier)) (b .1)
+            ∙ ap (λ k. take (capacity - n) (perform (stepsBack n) k .left .earlier)) t
+            ∙ brought .earlier,
       )

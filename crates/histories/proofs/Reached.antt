@@ -11,14 +11,14 @@ use Rattle.answer.specs.declared.Answer.{Answer}
 use Rattle.answer.specs.declared.Refusal.the-variants.{FieldTooLarge}
 use Rattle.answer.specs.Refused.{isRefused}
 use Rattle.command.specs.declared.Command.{Command}
-use Rattle.command.specs.Command.{commandOf, sizeAt, isLast}
-use Rattle.execute.specs.Execute.{obey}
+use Rattle.command.specs.Command.{commandOf, sizeAt, isLast, commandsFrom, commandsOf}
+use Rattle.execute.specs.Execute.{obey, perform}
 use Rattle.listing.specs.History.{History, Response, begun, remember, listing, emptying, keeping, backFrom}
 use Rattle.fields.specs.Largest.{largest}
 use Rattle.machine.specs.declared.Machine.{Machine}
 use Rattle.machine.specs.declared.Outcome.{Outcome}
 use Rattle.state.specs.State.{viewOf, tooLarge}
-use Rattle.transcript.specs.Session.{answersFrom, answersOf}
+use Rattle.transcript.specs.Session.{answersOf}
 use Rattle.histories.proofs.Refusal10.{isRefusal10}
 use Rattle.histories.proofs.Bounded.{
   Bounded,
@@ -79,8 +79,8 @@ front-spares (c ∷ s) = search (either Sparing) depth 13
 -- record and list after a command, and its answer
 record FitsOn (o : Response) : Type 0 where
   answer : isRefusal10 (o .answer) ≡ false
-  machine : Fits (o .kept .machine)
-  earlier : AllFit (o .kept .earlier)
+  machine : Fits (o .left .machine)
+  earlier : AllFit (o .left .earlier)
 
 module _ (k : History) (m : Fits (k .machine)) (h : AllFit (k .earlier)) where
   keeping-fits : (o : Outcome) → Bounded o → FitsOn (keeping o k)
@@ -120,21 +120,32 @@ module _ (k : History) (m : Fits (k .machine)) (h : AllFit (k .earlier)) where
   obey-fits (Command.Member d) e = listing-fits _ (member-bounded (k .machine) m d)
   obey-fits (Command.Bad n) e = keeping-fits _ (says-bounded (Answer.Refused n) (k .machine) e m)
 
--- the answers from a record and list on that do not meet refusal 10
-answers-fit :
-    (n : ℕ) (s : List ℕ) (k : History) → Fits (k .machine) → AllFit (k .earlier) → all NotRefusal10 (answersFrom n s k)
-unfolding answersFrom
-answers-fit zero s k m h = tt
-answers-fit (suc n) s k m h =
-    let o = obey (commandOf s) k in
-    let w = obey-fits k m h (commandOf s) (front-spares s) in
+-- no command of a session is refused with 10 for its bytes
+abbrev AllSpare : List Command → Type 0
+AllSpare [] = Unit {0}
+AllSpare (c ∷ cs) = Sparing c × AllSpare cs
+
+commands-spare : (n : ℕ) (s : List ℕ) → AllSpare (commandsFrom n s)
+unfolding commandsFrom
+commands-spare zero s = tt
+commands-spare (suc n) s =
     let next = drop (sizeAt s) s in (
-      not-refusal-10 (o .answer) (w .answer),
-      either (all NotRefusal10) (isLast (commandOf s)) [] (answersFrom n next (o .kept)) tt
-          (λ e. answers-fit n next (o .kept) (w .machine) (w .earlier)),
+      front-spares s,
+      either AllSpare (isLast (commandOf s)) [] (commandsFrom n next) tt (λ e. commands-spare n next),
     )
+
+-- the answers of such commands, from a record and list on that do not meet refusal 10
+answers-fit :
+    (cs : List Command) (k : History) → AllSpare cs → Fits (k .machine) → AllFit (k .earlier)
+    → all NotRefusal10 (perform cs k .answers)
+unfolding perform
+answers-fit [] k f m h = tt
+answers-fit (c ∷ cs) k f m h =
+    let o = obey c k in
+    let w = obey-fits k m h c (f .0) in
+    (not-refusal-10 (o .answer) (w .answer), answers-fit cs (o .left) (f .1) (w .machine) (w .earlier))
 
 -- whatever the bytes, no answer is refusal 10
 pub never-refusal-10 : (s : List ℕ) → all NotRefusal10 (answersOf s)
-unfolding answersOf tooLarge viewOf largest
-never-refusal-10 s = answers-fit (suc (length s)) s begun refl tt
+unfolding answersOf commandsOf tooLarge viewOf largest
+never-refusal-10 s = answers-fit (commandsOf s) begun (commands-spare (suc (length s)) s) refl tt

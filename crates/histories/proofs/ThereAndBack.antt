@@ -1,16 +1,17 @@
--- MODEL H7: as many steps back as commands were listed, up to 64, answer `ok` and bring back the record before them.
-use Prim.Native.Nat.{ℕ, zero, suc, _+_, _≤_}
+-- MODEL H7: as many steps back as commands were listed, up to 64, answer `ok` and bring back the record before them, and of the
+-- list what did not drop off.
+use Prim.Native.Nat.{ℕ, zero, suc, _+_, _-_, _≤_}
 use mathlib.Core.Bool.{Bool, true, false, cond, not, true≢false}
-use mathlib.Core.List.{List, [], _∷_}
+use mathlib.Core.List.{List, [], _∷_, _++_, append-assoc, append-nil}
 use mathlib.Core.Path.{_≡_, refl, sym, _∙_, ap, ap₂}
 use native.Mathlib.Nat.{zero-add, add-zero}
 use native.Mathlib.Omega.{arith}
-use lib.ListN.{length, take, length-take, replicate}
+use lib.ListN.{take, replicate, replicate-append-replicate}
 use Rattle.answer.specs.declared.Answer.{Answer}
 use Rattle.answer.specs.Refused.{isRefused}
 use Rattle.command.specs.declared.Command.{Command}
-use Rattle.execute.specs.Execute.{tickCommand, obey}
-use Rattle.listing.specs.History.{History, remember, listing, keeping, emptying}
+use Rattle.execute.specs.Execute.{tickCommand, obey, perform}
+use Rattle.listing.specs.History.{History, remember, listing, emptying}
 use Rattle.listing.proofs.Noted.{Stays}
 use Rattle.execute.proofs.Taken.{set-stays, level-stays, step-stays, read-same, write-stays, tick-stays, member-stays}
 use Rattle.fields.specs.Set.{set, setLevel}
@@ -18,59 +19,83 @@ use Rattle.journal.specs.Journal.{capacity}
 use Rattle.machine.proofs.Bools.{and-left, and-right}
 use Rattle.machine.specs.declared.Machine.{Machine}
 use Rattle.machine.specs.declared.Outcome.{Outcome}
-use Rattle.machine.specs.Outcome.{says, refused}
 use Rattle.rules.specs.External.{externalRead, externalWrite, member}
 use Rattle.rules.specs.Step.{decide, step}
 use Rattle.rules.specs.Word.{decode}
-use Rattle.histories.specs.Back.{perform, lists, goesOn, steps, forward, stepsBack, ThereAndBack}
+use Rattle.histories.specs.Back.{lists, goesOn, steps, forward, stepsBack, ThereAndBack}
 
--- the record n steps back from the record m with the list h, and from k
-abbrev from : ℕ → Machine → List Machine → Machine
-from n m h = perform (stepsBack n) (record { machine = m; earlier = h }) .left .machine
+-- what is seen of steps back: their answers, the record, and so many of the earlier ones
+record Seen : Type 0 where
+  answers : List Answer
+  machine : Machine
+  earlier : List Machine
 
-abbrev before : ℕ → History → Machine
-before n k = perform (stepsBack n) k .left .machine
+-- n steps back from the record m with the list h, after which i earlier records are looked at; and from k
+abbrev from : ℕ → ℕ → Machine → List Machine → Seen
+from i n m h =
+    let p = perform (stepsBack n) (record { machine = m; earlier = h }) in
+    record { answers = p .answers; machine = p .left .machine; earlier = take i (p .left .earlier) }
+
+abbrev back : ℕ → ℕ → History → Seen
+back i n k = from i n (k .machine) (k .earlier)
+
+-- the same, with j steps back before it that answered `ok`
+abbrev behind : ℕ → Seen → Seen
+behind j s = record { answers = replicate j Answer.Ok ++ s .answers; machine = s .machine; earlier = s .earlier }
+
+behind-both : (j n : ℕ) (s : Seen) → behind n (behind j s) ≡ behind (j + n) s
+behind-both j n s =
+    let e : n + j ≡ j + n = omega arith in
+    ap (λ a. record { answers = a; machine = s .machine; earlier = s .earlier })
+    (sym (append-assoc (replicate n Answer.Ok) (replicate j Answer.Ok) (s .answers))
+    ∙ ap (λ a. a ++ s .answers) (replicate-append-replicate n j Answer.Ok ∙ ap (λ i. replicate i Answer.Ok) e))
+
+take-twice : (i j : ℕ) (h : List Machine) → i ≤ j → take i (take j h) ≡ take i h
+take-twice zero j h l = refl
+take-twice (suc i) zero h l = let z : ⊥ = omega arith in absurd z
+take-twice (suc i) (suc j) [] l = refl
+take-twice (suc i) (suc j) (e ∷ h) l = ap (λ t. e ∷ t) (take-twice i j h (omega arith))
 
 -- what was cut off is not reached
-uncut : (n j : ℕ) (m : Machine) (h : List Machine) → n ≤ j → from n m (take j h) ≡ from n m h
+uncut : (i n j : ℕ) (m : Machine) (h : List Machine) → n + i ≤ j → from i n m (take j h) ≡ from i n m h
 unfolding perform obey
-uncut zero j m h l = refl
-uncut (suc n) zero m h l = let z : ⊥ = omega arith in absurd z
-uncut (suc n) (suc j) m [] l = uncut n (suc j) m [] (omega arith)
-uncut (suc n) (suc j) m (e ∷ h) l = uncut n j e h (omega arith)
+uncut i zero j m h l = ap (λ t. record { answers = []; machine = m; earlier = t }) (take-twice i j h (omega arith))
+uncut i (suc n) zero m h l = let z : ⊥ = omega arith in absurd z
+uncut i (suc n) (suc j) m [] l = refl
+uncut i (suc n) (suc j) m (e ∷ h) l = ap (behind 1) (uncut i n j e h (omega arith))
+
+-- a command that leaves record and list as they were
+same : (i n : ℕ) (m : Machine) (k : History) → m ≡ k .machine → from i (0 + n) m (k .earlier) ≡ behind 0 (back i n k)
+same i n m k e = ap₂ (λ j r. from i j r (k .earlier)) (zero-add n) e
 
 -- a command that is listed, unless it was refused, and the step back over it
 listing-on :
-    (o : Outcome) (k : History) → Stays (k .machine) o → (n : ℕ) → cond (not (isRefused (o .answer))) 1 0 + n ≤ capacity
-    → before (cond (not (isRefused (o .answer))) 1 0 + n) (listing o k .kept) ≡ before n k
+    (i n : ℕ) (o : Outcome) (k : History) → Stays (k .machine) o → cond (not (isRefused (o .answer))) 1 0 + n + i ≤ capacity
+    → back i (cond (not (isRefused (o .answer))) 1 0 + n) (listing o k .left)
+    ≡ behind (cond (not (isRefused (o .answer))) 1 0) (back i n k)
 unfolding perform obey remember
-listing-on o k stays n = go (isRefused (o .answer)) stays
+listing-on i n o k stays = go (isRefused (o .answer)) stays
   where
     go :
-        (b : Bool) → (b ≡ true → o .machine ≡ k .machine) → cond (not b) 1 0 + n ≤ capacity
-        → from (cond (not b) 1 0 + n) (o .machine) (cond b (k .earlier) (remember (k .machine) (k .earlier))) ≡ before n k
-    go true s l = ap₂ (λ j m. from j m (k .earlier)) (zero-add n) (s refl)
+        (b : Bool) → (b ≡ true → o .machine ≡ k .machine) → cond (not b) 1 0 + n + i ≤ capacity
+        → from i (cond (not b) 1 0 + n) (o .machine) (cond b (k .earlier) (remember (k .machine) (k .earlier)))
+        ≡ behind (cond (not b) 1 0) (back i n k)
+    go true s l = same i n (o .machine) k (s refl)
     go false s l =
         let e : 1 + n ≡ suc n = omega arith in
-        ap (λ j. from j (o .machine) (remember (k .machine) (k .earlier))) e
-        ∙ uncut n 63 (k .machine) (k .earlier) (omega (arith, l))
-
--- a command that leaves record and list as they were
-keeping-on :
-    (o : Outcome) (k : History) → o .machine ≡ k .machine → (n : ℕ)
-    → before (0 + n) (keeping o k .kept) ≡ before n k
-keeping-on o k e n = ap₂ (λ j m. from j m (k .earlier)) (zero-add n) e
+        ap (λ j. from i j (o .machine) (remember (k .machine) (k .earlier))) e
+        ∙ ap (behind 1) (uncut i n 63 (k .machine) (k .earlier) (omega (arith, l)))
 
 -- a set command that was refused
 emptying-on :
-    (o : Outcome) (k : History) → Stays (k .machine) o → not (not (isRefused (o .answer))) ≡ true → (n : ℕ)
-    → before (0 + n) (emptying o k .kept) ≡ before n k
-emptying-on o k stays e n = go (isRefused (o .answer)) stays e
+    (i n : ℕ) (o : Outcome) (k : History) → Stays (k .machine) o → not (not (isRefused (o .answer))) ≡ true
+    → back i (0 + n) (emptying o k .left) ≡ behind 0 (back i n k)
+emptying-on i n o k stays e = go (isRefused (o .answer)) stays e
   where
     go :
         (b : Bool) → (b ≡ true → o .machine ≡ k .machine) → not (not b) ≡ true
-        → from (0 + n) (o .machine) (cond b (k .earlier) []) ≡ before n k
-    go true s e = ap₂ (λ j m. from j m (k .earlier)) (zero-add n) (s refl)
+        → from i (0 + n) (o .machine) (cond b (k .earlier) []) ≡ behind 0 (back i n k)
+    go true s e = same i n (o .machine) k (s refl)
     go false s e = absurd (true≢false (sym e))
 
 -- an access, by its word
@@ -80,96 +105,48 @@ word-stays w x r = step-stays r (decode w) x
 
 -- the steps back that a command adds take it back
 one :
-    (c : Command) (k : History) → goesOn c (obey c k .answer) ≡ true → (n : ℕ)
-    → cond (lists c (obey c k .answer)) 1 0 + n ≤ capacity
-    → before (cond (lists c (obey c k .answer)) 1 0 + n) (obey c k .kept) ≡ before n k
+    (i n : ℕ) (c : Command) (k : History) → goesOn c (obey c k .answer) ≡ true
+    → cond (lists c (obey c k .answer)) 1 0 + n + i ≤ capacity
+    → back i (cond (lists c (obey c k .answer)) 1 0 + n) (obey c k .left)
+    ≡ behind (cond (lists c (obey c k .answer)) 1 0) (back i n k)
 unfolding obey
-one Command.End k g n l = keeping-on (says Answer.End (k .machine)) k refl n
-one (Command.Set f v) k g n l = emptying-on (set f v (k .machine)) k (set-stays (k .machine) f v) g n
-one (Command.Level m) k g n l = listing-on (setLevel m (k .machine)) k (level-stays (k .machine) m) n l
-one (Command.Access w x) k g n l = listing-on (step w x (k .machine)) k (word-stays w x (k .machine)) n l
-one (Command.Read o) k g n l = keeping-on (externalRead o (k .machine)) k (read-same (k .machine) o) n
-one (Command.Write o x) k g n l = listing-on (externalWrite o x (k .machine)) k (write-stays (k .machine) o x) n l
-one (Command.Tick p) k g n l = listing-on (tickCommand p (k .machine)) k (tick-stays (k .machine) p) n l
-one Command.Back k g n l = absurd (true≢false (sym g))
-one (Command.Member d) k g n l = listing-on (member d (k .machine)) k (member-stays (k .machine) d) n l
-one (Command.Bad r) k g n l = keeping-on (refused r (k .machine)) k refl n
+one i n Command.End k g l = same i n (k .machine) k refl
+one i n (Command.Set f v) k g l = emptying-on i n (set f v (k .machine)) k (set-stays (k .machine) f v) g
+one i n (Command.Level m) k g l = listing-on i n (setLevel m (k .machine)) k (level-stays (k .machine) m) l
+one i n (Command.Access w x) k g l = listing-on i n (step w x (k .machine)) k (word-stays w x (k .machine)) l
+one i n (Command.Read o) k g l = same i n (externalRead o (k .machine) .machine) k (read-same (k .machine) o)
+one i n (Command.Write o x) k g l = listing-on i n (externalWrite o x (k .machine)) k (write-stays (k .machine) o x) l
+one i n (Command.Tick p) k g l = listing-on i n (tickCommand p (k .machine)) k (tick-stays (k .machine) p) l
+one i n Command.Back k g l = absurd (true≢false (sym g))
+one i n (Command.Member d) k g l = listing-on i n (member d (k .machine)) k (member-stays (k .machine) d) l
+one i n (Command.Bad r) k g l = same i n (k .machine) k refl
 
-more :
-    (cs : List Command) (k : History) (n : ℕ) → forward cs k ≡ true → steps cs k + n ≤ capacity
-    → before (steps cs k + n) (perform cs k .left) ≡ before n k
+-- and those that commands add take them back, one after another
+all :
+    (i n : ℕ) (cs : List Command) (k : History) → forward cs k ≡ true → steps cs k + n + i ≤ capacity
+    → back i (steps cs k + n) (perform cs k .left) ≡ behind (steps cs k) (back i n k)
 unfolding perform steps forward
-more [] k n f l = ap (λ j. before j k) (zero-add n)
-more (c ∷ cs) k n f l =
+all i n [] k f l = same i n (k .machine) k refl
+all i n (c ∷ cs) k f l =
     let o = obey c k in
     let j : ℕ = cond (lists c (o .answer)) 1 0 in
-    let here = and-left (goesOn c (o .answer)) (forward cs (o .kept)) f in
-    let rest = and-right (goesOn c (o .answer)) (forward cs (o .kept)) f in
-    let e : (j + steps cs (o .kept)) + n ≡ steps cs (o .kept) + (j + n) = omega arith in
-    ap (λ i. before i (perform cs (o .kept) .left)) e
-    ∙ more cs (o .kept) (j + n) rest (omega (arith, l))
-    ∙ one c k here n (omega (arith, l))
-
--- with so many listed, each step back answers `ok`
-all-ok :
-    (n : ℕ) (m : Machine) (h : List Machine) → n ≤ length h
-    → perform (stepsBack n) (record { machine = m; earlier = h }) .answers ≡ replicate n Answer.Ok
-unfolding perform obey
-all-ok zero m h l = refl
-all-ok (suc n) m [] l = let z : ⊥ = omega (arith, l) in absurd z
-all-ok (suc n) m (e ∷ h) l = ap (λ a. Answer.Ok ∷ a) (all-ok n e h (omega (arith, l)))
-
--- how many are listed after a command, where j were before it
-module _ (k : History) (j : ℕ) (h : j ≤ length (k .earlier)) where
-  listing-counted :
-      (b : Bool) → j + cond (not b) 1 0 ≤ capacity
-      → j + cond (not b) 1 0 ≤ length (cond b (k .earlier) (remember (k .machine) (k .earlier)))
-  unfolding remember
-  listing-counted true l = omega (arith, h)
-  listing-counted false l = omega (arith, h, l, length-take capacity (k .machine ∷ k .earlier))
-
-  kept-counted : j + 0 ≤ length (k .earlier)
-  kept-counted = omega (arith, h)
-
-  emptying-counted : (b : Bool) → not (not b) ≡ true → j + 0 ≤ length (cond b (k .earlier) [])
-  emptying-counted true e = kept-counted
-  emptying-counted false e = absurd (true≢false (sym e))
-
-  one-counted :
-      (c : Command) → goesOn c (obey c k .answer) ≡ true → j + cond (lists c (obey c k .answer)) 1 0 ≤ capacity
-      → j + cond (lists c (obey c k .answer)) 1 0 ≤ length (obey c k .kept .earlier)
-  unfolding obey
-  one-counted Command.End g l = kept-counted
-  one-counted (Command.Set f v) g l = emptying-counted (isRefused (obey (Command.Set f v) k .answer)) g
-  one-counted (Command.Level m) g l = listing-counted (isRefused (obey (Command.Level m) k .answer)) l
-  one-counted (Command.Access w x) g l = listing-counted (isRefused (obey (Command.Access w x) k .answer)) l
-  one-counted (Command.Read o) g l = kept-counted
-  one-counted (Command.Write o x) g l = listing-counted (isRefused (obey (Command.Write o x) k .answer)) l
-  one-counted (Command.Tick p) g l = listing-counted (isRefused (obey (Command.Tick p) k .answer)) l
-  one-counted Command.Back g l = absurd (true≢false (sym g))
-  one-counted (Command.Member d) g l = listing-counted (isRefused (obey (Command.Member d) k .answer)) l
-  one-counted (Command.Bad r) g l = kept-counted
-
-counted :
-    (cs : List Command) (k : History) (j : ℕ) → forward cs k ≡ true → j + steps cs k ≤ capacity → j ≤ length (k .earlier)
-    → j + steps cs k ≤ length (perform cs k .left .earlier)
-unfolding perform steps forward
-counted [] k j f l h = omega (arith, h)
-counted (c ∷ cs) k j f l h =
-    let o = obey c k in
-    let i : ℕ = cond (lists c (o .answer)) 1 0 in
-    let here = and-left (goesOn c (o .answer)) (forward cs (o .kept)) f in
-    let rest = and-right (goesOn c (o .answer)) (forward cs (o .kept)) f in
-    let first = one-counted k j h c here (omega (arith, l)) in
-    omega (arith, counted cs (o .kept) (j + i) rest (omega (arith, l)) first)
+    let s = steps cs (o .left) in
+    let here = and-left (goesOn c (o .answer)) (forward cs (o .left)) f in
+    let rest = and-right (goesOn c (o .answer)) (forward cs (o .left)) f in
+    let e : (j + s) + n ≡ s + (j + n) = omega arith in
+    ap (λ t. back i t (perform cs (o .left) .left)) e
+    ∙ all i (j + n) cs (o .left) rest (omega (arith, l))
+    ∙ ap (behind s) (one i n c k here (omega (arith, l)))
+    ∙ behind-both j s (back i n k)
 
 pub there-and-back : ThereAndBack
 unfolding perform
 there-and-back cs k f l =
     let n = steps cs k in
-    let k′ = perform cs k .left in
-    let enough : n ≤ length (k′ .earlier) = omega (arith, counted cs k 0 f (omega (arith, l)) (omega arith)) in
+    let i = capacity - n in
+    let e = ap (λ j. back i j (perform cs k .left)) (sym (add-zero n)) ∙ all i 0 cs k f (omega (arith, l)) in
     record {
-      answers = all-ok n (k′ .machine) (k′ .earlier) enough;
-      machine = ap (λ i. before i k′) (sym (add-zero n)) ∙ more cs k 0 f (omega (arith, l));
+      answers = ap (λ (s : Seen). s .answers) e ∙ append-nil (replicate n Answer.Ok);
+      machine = ap (λ (s : Seen). s .machine) e;
+      earlier = ap (λ (s : Seen). s .earlier) e;
     }

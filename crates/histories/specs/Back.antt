@@ -1,30 +1,16 @@
 -- The claim on steps back, about the commands' own definition.
-use Prim.Native.Nat.{ℕ, _+_, _≤_}
+use Prim.Native.Nat.{ℕ, _+_, _-_, _≤_}
 use mathlib.Core.Bool.{Bool, true, false, cond, not, _&&_}
 use mathlib.Core.List.{List, [], _∷_}
 use mathlib.Core.Path.{_≡_}
-use lib.ListN.{replicate}
+use lib.ListN.{take, replicate}
 use Rattle.answer.specs.declared.Answer.{Answer}
 use Rattle.answer.specs.Refused.{isRefused}
 use Rattle.command.specs.declared.Command.{Command}
 use Rattle.command.specs.Command.{isSet, isBack}
 use Rattle.journal.specs.Journal.{capacity}
-use Rattle.execute.specs.Execute.{obey}
+use Rattle.execute.specs.Execute.{obey, perform}
 use Rattle.listing.specs.History.{History}
-use Rattle.machine.specs.declared.Machine.{Machine}
-
--- MODEL S2: what commands answer, and record and list after them
-pub record Performed : Type 0 where
-  pub answers : List Answer
-  pub left : History
-
--- MODEL S2: commands run one after another
-unfoldable pub perform : List Command → History → Performed
-perform [] k = record { answers = []; left = k }
-perform (c ∷ cs) k =
-    let o = obey c k in
-    let then = perform cs (o .kept) in
-    record { answers = o .answer ∷ then .answers; left = then .left }
 
 -- MODEL H2: the commands that are listed unless they are refused
 abbrev pub isListed : Command → Bool
@@ -51,26 +37,28 @@ goesOn c a = not (isBack c) && not (isSet c && not (isRefused a))
 unfoldable pub steps : List Command → History → ℕ
 steps [] k = 0
 steps (c ∷ cs) k =
-    let o = obey c k in cond (lists c (o .answer)) 1 0 + steps cs (o .kept)
+    let o = obey c k in cond (lists c (o .answer)) 1 0 + steps cs (o .left)
 
 -- MODEL H7: none of the commands is a step back or empties the list
 unfoldable pub forward : List Command → History → Bool
 forward [] k = true
 forward (c ∷ cs) k =
-    let o = obey c k in goesOn c (o .answer) && forward cs (o .kept)
+    let o = obey c k in goesOn c (o .answer) && forward cs (o .left)
 
 -- MODEL H7: so many steps back
 abbrev pub stepsBack : ℕ → List Command
 stepsBack n = replicate n Command.Back
 
--- MODEL H1 and H7: n steps back all answer `ok`, and bring back the record m
-pub record BringBack (n : ℕ) (k : History) (m : Machine) : Type 0 where
+-- MODEL H1 and H7: n steps back from k all answer `ok`, and bring back the record of an earlier history, and its list as far as
+-- it can't have dropped off meanwhile
+pub record BringBack (n : ℕ) (k was : History) : Type 0 where
   pub answers : perform (stepsBack n) k .answers ≡ replicate n Answer.Ok
-  pub machine : perform (stepsBack n) k .left .machine ≡ m
+  pub machine : perform (stepsBack n) k .left .machine ≡ was .machine
+  pub earlier : take (capacity - n) (perform (stepsBack n) k .left .earlier) ≡ take (capacity - n) (was .earlier)
 
 -- MODEL H7: after commands of which up to 64 are listed, none of them a step back and none that empties the list, as many steps
--- back as were listed bring back the record before them
+-- back as were listed bring back what was there before them
 abbrev pub ThereAndBack : Type 0
 ThereAndBack =
     (cs : List Command) (k : History) → forward cs k ≡ true → steps cs k ≤ capacity
-    → BringBack (steps cs k) (perform cs k .left) (k .machine)
+    → BringBack (steps cs k) (perform cs k .left) k

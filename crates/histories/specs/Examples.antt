@@ -1,5 +1,6 @@
 -- Examples of steps back, as data: commands, their answers, and the whole record and the length of the list after them.
 use Prim.Native.Nat.{ℕ}
+use mathlib.Core.Bool.{Bool, true, false}
 use mathlib.Core.List.{List, [], _∷_, _++_}
 use lib.ListN.{length, replicate}
 use Rattle.answer.specs.declared.Answer.{Answer}
@@ -7,6 +8,7 @@ use Rattle.answer.specs.declared.Cause.the-variants.{Hpmn}
 use Rattle.answer.specs.declared.Level.the-variants.{El2}
 use Rattle.answer.specs.declared.Refusal.{Refusal}
 use Rattle.answer.specs.declared.Refusal.the-variants.{
+  Truncated,
   UnknownField,
   ValueTooLarge,
   LevelTooLarge,
@@ -14,12 +16,14 @@ use Rattle.answer.specs.declared.Refusal.the-variants.{
   NothingToUndo,
 }
 use Rattle.command.specs.declared.Command.{Command}
-use Rattle.command.specs.declared.Command.the-variants.{Set, Level, Access, Read, Write, Tick, Back, Member}
+use Rattle.command.specs.declared.Command.the-variants.{End, Set, Level, Access, Read, Write, Tick, Back, Member, Bad}
+use Rattle.execute.specs.Execute.{perform}
 use Rattle.fields.specs.Set.{setAll}
+use Rattle.listing.specs.History.{History}
 use Rattle.machine.specs.declared.Machine.{Machine}
 use Rattle.machine.specs.Machine.{withLevel}
 use Rattle.rules.specs.Example.{usual, countersOn, trap, gives}
-use Rattle.histories.specs.Back.{perform}
+use Rattle.histories.specs.Back.{steps, forward}
 
 -- MODEL H11: what is set before, field and value, and the level; the commands and their answers; and what is then set, the level
 -- that the record then has, and how many commands are listed
@@ -138,6 +142,16 @@ backExamples =
     -- MODEL H6: a record that is not consistent is stepped back from too, and its refused access is not listed
     ∷ undoes [] 1 (Level 3 ∷ Access 0xD53BE862 0 ∷ Back ∷ Access 0xD53BE862 0 ∷ Back ∷ [])
     (Answer.Ok ∷ no LevelUnavailable ∷ Answer.Ok ∷ gives 0 ∷ Answer.Ok ∷ [])
+    -- MODEL H6: nor is the record tested that comes back
+    ∷ record {
+      given = [];
+      level = 1;
+      commands = Level 3 ∷ Level 1 ∷ Back ∷ Access 0xD53BE862 0 ∷ [];
+      answers = Answer.Ok ∷ Answer.Ok ∷ Answer.Ok ∷ no LevelUnavailable ∷ [];
+      after = [];
+      left = 3;
+      listed = 1;
+    }
     -- MODEL H5: a set empties the list, and refused ones do not
     ∷ record {
       given = [];
@@ -170,4 +184,36 @@ backExamples =
       left = 1;
       listed = 2;
     }
+    ∷ []
+
+-- MODEL H7 and H11: commands, whether none of them is a step back or empties the list, and how many are listed
+pub record Premise : Type 0 where
+  pub commands : List Command
+  pub forward : Bool
+  pub steps : ℕ
+
+-- MODEL H7 and H11: what the definitions give, from the record of MODEL P0 at level 1 on, with nothing listed
+unfoldable pub premise : Premise → Premise
+premise e =
+    let k : History = record { machine = withLevel 1 usual; earlier = [] } in
+    record { commands = e .commands; forward = forward (e .commands) k; steps = steps (e .commands) k }
+
+-- MODEL H7 and H11: what the claim on steps back is of, and what it is not of
+unfoldable pub premises : List Premise
+premises =
+    -- MODEL H7: no commands, and 64 that are listed
+    record { commands = []; forward = true; steps = 0 }
+    ∷ record { commands = replicate 64 (Level 2); forward = true; steps = 64 }
+    -- MODEL H2: a trap, an external write, a tick and a member are listed
+    ∷ record { commands = Access 0xD53BE882 0 ∷ Write 0xC00 1 ∷ Tick 0 ∷ Member 0 ∷ []; forward = true; steps = 4 }
+    -- MODEL H4: external reads, the end command and what is refused may stand between, a refused set among it
+    ∷ record {
+      commands = Level 0 ∷ Read 0xC00 ∷ Set 0x0C 32 ∷ Level 4 ∷ Tick 2 ∷ End ∷ Bad Truncated ∷ Tick 1 ∷ [];
+      forward = true;
+      steps = 2;
+    }
+    -- MODEL H5 and H7: a set that is obeyed may not, nor may a step back, obeyed or not
+    ∷ record { commands = Level 0 ∷ Set 0x20 0 ∷ []; forward = false; steps = 1 }
+    ∷ record { commands = Level 0 ∷ Back ∷ []; forward = false; steps = 1 }
+    ∷ record { commands = Back ∷ Level 0 ∷ []; forward = false; steps = 1 }
     ∷ []

@@ -6,7 +6,7 @@ use mathlib.Core.Path.{_≡_, refl, sym, _∙_, ap}
 use native.Mathlib.Nat.{zero-min, min-zero, suc-min-suc}
 use native.Mathlib.Omega.{arith}
 use lib.ListN.{take}
-use Rattle.journal.specs.Journal.{before, listed}
+use Rattle.journal.specs.Journal.{before, backwards}
 
 -- the place after another, round the 64
 abbrev pub after : ℕ → ℕ
@@ -17,11 +17,11 @@ before-after at h = omega arith
 
 module _ {E : Type 0} where
   -- the first j of k entries
-  take-listed : (j k at : ℕ) (f : ℕ → E) → take j (listed k at f) ≡ listed (min j k) at f
-  unfolding listed
-  take-listed zero k at f = rw zero-min
-  take-listed (suc j) zero at f = rw min-zero
-  take-listed (suc j) (suc k) at f = rw (suc-min-suc, take-listed j k (before at) f)
+  take-backwards : (j k at : ℕ) (f : ℕ → E) → take j (backwards k at f) ≡ backwards (min j k) at f
+  unfolding backwards
+  take-backwards zero k at f = rw zero-min
+  take-backwards (suc j) zero at f = rw min-zero
+  take-backwards (suc j) (suc k) at f = rw (suc-min-suc, take-backwards j k (before at) f)
 
   -- entries that are others at one place only, which k entries do not reach: they begin j places before it
   apart :
@@ -29,14 +29,15 @@ module _ {E : Type 0} where
       → at < 64
       → j + k ≤ 63
       → ((i : ℕ) → i ≢ at → g i ≡ f i)
-      → listed k ((at + 64 - j) % 64) g ≡ listed k ((at + 64 - j) % 64) f
-  unfolding listed
+      → backwards k ((at + 64 - j) % 64) g ≡ backwards k ((at + 64 - j) % 64) f
+  unfolding backwards
   apart zero j at f g h l others = refl
   apart (suc k) j at f g h l others =
       let here = (at + 64 - j) % 64 in
       let step : before here ≡ (at + 64 - suc j) % 64 = omega arith in
       let first = others (before here) (λ e. omega (arith, e)) in
-      let more : listed k (before here) g ≡ listed k (before here) f = rw step (apart k (suc j) at f g h (omega arith) others) in
+      let behind = apart k (suc j) at f g h (omega arith) others in
+      let more : backwards k (before here) g ≡ backwards k (before here) f = rw step behind in
       λ i. first i ∷ more i
 
   -- a new entry at the next place is the first of those listed
@@ -46,12 +47,12 @@ module _ {E : Type 0} where
       → k ≤ 63
       → g at ≡ e
       → ((i : ℕ) → i ≢ at → g i ≡ f i)
-      → listed (suc k) (after at) g ≡ e ∷ listed k at f
-  unfolding listed
+      → backwards (suc k) (after at) g ≡ e ∷ backwards k at f
+  unfolding backwards
   stored k at f g e h l new others =
       let here : (at + 64 - 0) % 64 ≡ at = omega arith in
       let kept = rw here at (apart k 0 at f g h (omega arith) others) in
-      ap (λ p. g p ∷ listed k p g) (before-after at h) ∙ (λ i. new i ∷ kept i)
+      ap (λ p. g p ∷ backwards k p g) (before-after at h) ∙ (λ i. new i ∷ kept i)
 
   -- MODEL H1, H3: one entry more, of which the first 64 stay
   pub pushed :
@@ -59,18 +60,18 @@ module _ {E : Type 0} where
       → at < 64
       → g at ≡ e
       → ((i : ℕ) → i ≢ at → g i ≡ f i)
-      → listed (min (n + 1) 64) (after at) g ≡ take 64 (e ∷ listed (min n 64) at f)
+      → backwards (min (n + 1) 64) (after at) g ≡ take 64 (e ∷ backwards (min n 64) at f)
   pushed n at f g e h new others =
       let count : min (n + 1) 64 ≡ suc (min 63 (min n 64)) = omega arith in
-      ap (λ k. listed k (after at) g) count
+      ap (λ k. backwards k (after at) g) count
       ∙ stored (min 63 (min n 64)) at f g e h (omega arith) new others
-      ∙ ap (λ l. e ∷ l) (sym (take-listed 63 (min n 64) at f))
+      ∙ ap (λ l. e ∷ l) (sym (take-backwards 63 (min n 64) at f))
 
   -- MODEL H1: the latest, and what is left
-  pub first-listed :
+  pub first-backwards :
       (k at : ℕ) (f : ℕ → E)
       → 0 < k
-      → listed k at f ≡ f (before at) ∷ listed (k - 1) (before at) f
-  unfolding listed
-  first-listed zero at f h = let z : ⊥ = omega arith in absurd z
-  first-listed (suc k) at f h = let less : suc k - 1 ≡ k = omega arith in rw less
+      → backwards k at f ≡ f (before at) ∷ backwards (k - 1) (before at) f
+  unfolding backwards
+  first-backwards zero at f h = let z : ⊥ = omega arith in absurd z
+  first-backwards (suc k) at f h = let less : suc k - 1 ≡ k = omega arith in rw less

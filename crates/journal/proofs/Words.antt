@@ -7,7 +7,7 @@ use native.Mathlib.Omega.{arith}
 use lib.ListN.{getD, set, length, length-set}
 use lib.Seq.{getD-set-same, getD-set-other}
 use Rattle.journal.specs.declared.Entry.{Entry}
-use Rattle.journal.specs.Journal.{entryOf, entryAt, listed, entries, capacity}
+use Rattle.journal.specs.Journal.{entryOf, entryAt, backwards, entries, capacity}
 
 -- the entry that is read from three words, where field, level and tag are read from the first
 pub packed-entry :
@@ -98,7 +98,7 @@ module _ (l : List ℕ) (n at : ℕ) where
       ∙ getD-set-other l 0 (3 * j + d) n 0 (λ e. omega (arith, e))
 
   -- the list, whose entries stay
-  pub marked : length l ≡ 194 → entries m₂ ≡ listed (min n capacity) (at % 64) (entryAt l)
+  pub marked : length l ≡ 194 → entries m₂ ≡ backwards (min n capacity) (at % 64) (entryAt l)
   unfolding entries
   marked h =
-      λ i. listed (min (count-word h i) capacity) (place-word h i % 64) (λ j. same-words l m₂ j (later-word j) i)
+      λ i. backwards (min (count-word h i) capacity) (place-word h i % 64) (λ j. same-words l m₂ j (later-word j) i)

@@ -32,13 +32,13 @@ abbrev pub before : ℕ → ℕ
 before at = (at + 63) % 64
 
 -- MODEL H9: so many entries, from the place before this one backwards
-unfoldable pub listed : {E : Type 0} → ℕ → ℕ → (ℕ → E) → List E
-listed zero at f = []
-listed (suc k) at f = f (before at) ∷ listed k (before at) f
+unfoldable pub backwards : {E : Type 0} → ℕ → ℕ → (ℕ → E) → List E
+backwards zero at f = []
+backwards (suc k) at f = f (before at) ∷ backwards k (before at) f
 
 -- MODEL H9: the entries that the words stand for, the latest first
 unfoldable pub entries : List ℕ → List Entry
-entries words = listed (min (getD words 0 0) capacity) (getD words 1 0 % 64) (entryAt words)
+entries words = backwards (min (getD words 0 0) capacity) (getD words 1 0 % 64) (entryAt words)
 
 -- MODEL H1: the latest of the entries
 abbrev pub latest : List Entry → Recalled

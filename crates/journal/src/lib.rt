@@ -6,7 +6,7 @@ ghost use mathlib.Core.Path.{_≡_};
 ghost use mathlib.Core.List.{[], _∷_};
 ghost use Prim.Native.Nat.{ℕ, _+_, _/_, _%_, _^_, _<_, min};
 ghost use lib.ListN.{getD, length, take};
-ghost use Rattle.journal.specs.Journal.{entries, entryAt, listed, latest, rest, capacity};
+ghost use Rattle.journal.specs.Journal.{entries, entryAt, backwards, latest, rest, capacity};
 use undo::Change;
 use undo::Undo;
 
@@ -89,7 +89,7 @@ fn put(list: &mut [u64], at: usize, e: Entry)
 // The first two words: so many entries are listed, and the next will stand at this place.
 fn mark(list: &mut [u64], n: u64, at: usize)
     requires { ⌜ length (now list) ≡ 194 ⌝ }
-    ensures { λ r. ⌜ entries (now (list .exit)) ≡ listed (min n capacity) (at % 64) (entryAt (now (list .entry))) ⌝ }
+    ensures { λ r. ⌜ entries (now (list .exit)) ≡ backwards (min n capacity) (at % 64) (entryAt (now (list .entry))) ⌝ }
 {
     list[0] = n;
     list[1] = at as u64;

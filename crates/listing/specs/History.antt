@@ -23,11 +23,11 @@ begun = record { machine = fresh; earlier = [] }
 -- MODEL L1 and H1: what a command answers, with record and list afterwards
 pub record Response : Type 0 where
   pub answer : Answer
-  pub kept : History
+  pub left : History
 
 -- MODEL L1 and H1: an outcome, with the list afterwards
 abbrev pub response : Outcome → List Machine → Response
-response o h = record { answer = o .answer; kept = record { machine = o .machine; earlier = h } }
+response o h = record { answer = o .answer; left = record { machine = o .machine; earlier = h } }
 
 -- MODEL H3: one record more, and of more than 64 the oldest drops off
 unfoldable pub remember : Machine → List Machine → List Machine

@@ -24,7 +24,7 @@ historyBy m words = record { machine = m; earlier = earlierBy (entries words) m 
 
 -- MODEL H9: an outcome, and the words of the undo list afterwards
 abbrev pub responseBy : Outcome → List ℕ → Response
-responseBy o words = record { answer = o .answer; kept = historyBy (o .machine) words }
+responseBy o words = record { answer = o .answer; left = historyBy (o .machine) words }
 
 -- MODEL H2 and H9: the entries after a command of which this is kept, with a tag, unless it was refused
 abbrev pub noted : Answer → Undo → ℕ → List Entry → List Entry

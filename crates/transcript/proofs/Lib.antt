@@ -4,5 +4,4 @@ pub mod Running
 pub mod Room
 pub mod Turn
 pub mod Whole
-pub mod Fuel
 pub mod Lines

@@ -7,29 +7,34 @@ use native.Mathlib.Numerals.{add-one}
 use native.Mathlib.Omega.{arith}
 use lib.ListN.{length, drop, length-drop, length-append}
 use lib.Seq.{sets, drop-drop, length-sets}
+use Rattle.answer.specs.declared.Answer.{Answer}
 use Rattle.command.specs.declared.Command.{Command}
-use Rattle.command.specs.Command.{commandOf, sizeAt, isLast}
+use Rattle.command.specs.Command.{commandOf, sizeAt, isLast, commandsFrom, commandsOf}
 use Rattle.command.proofs.Sizes.{size-bounds}
 use Rattle.line.specs.Line.{lineOf}
-use Rattle.execute.specs.Execute.{obey}
+use Rattle.execute.specs.Execute.{obey, perform}
 use Rattle.listing.specs.History.{History, Response, begun}
 use Rattle.text.specs.Written.{Written}
 use Rattle.text.proofs.Sets.{sets-rest}
-use Rattle.transcript.specs.Session.{answersFrom, linesFrom, answersOf, longest, room}
+use Rattle.transcript.specs.Session.{linesFrom, answersOf, longest, room}
+
+-- the answers of the commands that bytes hold, so many at most, from a record and list on
+abbrev answersFrom : ℕ → List ℕ → History → List Answer
+answersFrom n s k = perform (commandsFrom n s) k .answers
 
 -- the lines of the commands from a place on, where the last has a line and the others have one and go on
 module _ (k : ℕ) (t : List ℕ) (m : History) (p : ℕ) where
   lines-last :
       isLast (commandOf t) ≡ true → linesFrom p (answersFrom (suc k) t m) ≡ lineOf p (obey (commandOf t) m .answer)
-  unfolding linesFrom answersFrom
+  unfolding linesFrom commandsFrom perform
   lines-last e = rw e (append-nil (lineOf p (obey (commandOf t) m .answer)))
 
   lines-on :
       isLast (commandOf t) ≡ false
       → linesFrom p (answersFrom (suc k) t m)
       ≡ lineOf p (obey (commandOf t) m .answer)
-      ++ linesFrom (suc p) (answersFrom k (drop (sizeAt t) t) (obey (commandOf t) m .kept))
-  unfolding linesFrom answersFrom
+      ++ linesFrom (suc p) (answersFrom k (drop (sizeAt t) t) (obey (commandOf t) m .left))
+  unfolding linesFrom commandsFrom perform
   lines-on e = rw e
 
 -- the command at a place of the session, its outcome, and the line of its answer at position p
@@ -62,7 +67,7 @@ pub record Running (s out₀ out : List ℕ) (m : History) (at end p : ℕ) : Ty
   pub remains-length : end + length (remaining s m at p) ≡ length (linesFrom 1 (answersOf s))
 
 start-remaining : (s : List ℕ) (m : History) → m ≡ begun → remaining s m 0 1 ≡ linesFrom 1 (answersOf s)
-unfolding remaining answersOf
+unfolding remaining answersOf commandsOf
 start-remaining s m e =
     let n : length s + 2 - 1 ≡ suc (length s) = omega arith in
     λ i. linesFrom 1 (answersFrom (n i) s (e i))
@@ -104,7 +109,7 @@ module _ {s out₀ out : List ℕ} {m : History} {at end p : ℕ} (r : Running s
 
   -- what remains behind this command
   next-remaining : List ℕ
-  next-remaining = remaining s (outcomeAt s m at .kept) (at + sizeAt (drop at s)) (p + 1)
+  next-remaining = remaining s (outcomeAt s m at .left) (at + sizeAt (drop at s)) (p + 1)
 
   on-remaining : isLast (commandAt s at) ≡ false → remaining s m at p ≡ lineAt s m at p ++ next-remaining
   unfolding remaining next-remaining
@@ -114,14 +119,14 @@ module _ {s out₀ out : List ℕ} {m : History} {at end p : ℕ} (r : Running s
       ∙ (λ i.
       lineAt s m at p
       ++ linesFrom (sym (add-one p) i)
-      (answersFrom (length s + 2 - (p + 1)) (drop-drop (sizeAt (drop at s)) at s i) (outcomeAt s m at .kept)))
+      (answersFrom (length s + 2 - (p + 1)) (drop-drop (sizeAt (drop at s)) at s i) (outcomeAt s m at .left)))
 
   pub running-on :
       {out′ : List ℕ} {end′ : ℕ}
       → Written out end (lineAt s m at p) out′ end′
       → end′ ≤ end + 16 * sizeAt (drop at s)
       → isLast (commandAt s at) ≡ false
-      → Running s out₀ out′ (outcomeAt s m at .kept) (at + sizeAt (drop at s)) end′ (p + 1)
+      → Running s out₀ out′ (outcomeAt s m at .left) (at + sizeAt (drop at s)) end′ (p + 1)
   unfolding next-remaining
   running-on {out′} w b e =
       let size = size-bounds (drop at s) e in

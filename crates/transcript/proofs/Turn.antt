@@ -52,7 +52,7 @@ module _
     pub turn-end : b ≡ true → Written out₀ 0 (linesFrom 1 (answersOf s)) out′ end′
     turn-end t = running-end r written-here (last-here true t)
 
-    pub turn-on : end′ ≤ end + 32 → b ≡ false → Running s out₀ out′ (o .kept) (at + n) end′ (p + 1)
+    pub turn-on : end′ ≤ end + 32 → b ≡ false → Running s out₀ out′ (o .left) (at + n) end′ (p + 1)
     turn-on short t =
         let last = last-here false t in
         rw (outcome-here, size-here) (running-on r written-here (line-fits r written-here short last) last)

@@ -1,5 +1,5 @@
--- The answers of a session's bytes, and the whole output.
-use Prim.Native.Nat.{ℕ, zero, suc, _+_, _*_}
+-- The answers of a session's commands, and the whole output.
+use Prim.Native.Nat.{ℕ, suc, _+_, _*_}
 use mathlib.Core.Bool.{cond}
 use mathlib.Core.List.{List, [], _∷_, _++_}
 use lib.Dec.{ltb}
@@ -7,20 +7,10 @@ use lib.ListN.{length, drop}
 use Rattle.answer.specs.declared.Answer.{Answer}
 use Rattle.answer.specs.declared.Refusal.the-variants.{SessionTooLong}
 use Rattle.transcript.specs.declared.Output.{Output}
-use Rattle.command.specs.Command.{commandOf, sizeAt, isLast}
-use Rattle.execute.specs.Execute.{obey}
-use Rattle.listing.specs.History.{History, begun}
+use Rattle.command.specs.Command.{commandsOf}
+use Rattle.execute.specs.Execute.{perform}
+use Rattle.listing.specs.History.{begun}
 use Rattle.line.specs.Line.{lineOf}
-
--- MODEL S2, S4 and V2: the answers of the commands that the bytes hold, from a record and list on, as far as reading goes. The
--- number bounds how many commands are read: a command takes a byte or more
-unfoldable pub answersFrom : ℕ → List ℕ → History → List Answer
-answersFrom zero s k = []
-answersFrom (suc n) s k =
-    let c = commandOf s in
-    let o = obey c k in
-    let rest = answersFrom n (drop (sizeAt s) s) (o .kept) in
-    o .answer ∷ cond (isLast c) [] rest
 
 -- MODEL S4 and L2: the lines of answers, from a position on
 unfoldable pub linesFrom : ℕ → List Answer → List ℕ
@@ -31,9 +21,9 @@ linesFrom position (a ∷ rest) = lineOf position a ++ linesFrom (suc position) 
 abbrev pub longest : ℕ
 longest = 4096
 
--- MODEL S2: the answers of a session that is not too long, run from the fresh record, with nothing listed
+-- MODEL S2 and S4: the answers of a session that is not too long: its commands, run from the fresh record, with nothing listed
 unfoldable pub answersOf : List ℕ → List Answer
-answersOf s = answersFrom (suc (length s)) s begun
+answersOf s = perform (commandsOf s) begun .answers
 
 -- MODEL R6, S5 and V1: the whole output
 unfoldable pub outputOf : List ℕ → List ℕ

@@ -5,13 +5,13 @@ use mathlib.Core.Path.{_≡_, sym, _∙_, ap, ap₂}
 use native.Mathlib.Omega.{arith}
 use lib.ListN.{getD}
 use Rattle.journal.specs.declared.Recalled.{Recalled}
-use Rattle.journal.specs.Journal.{entryAt, before, listed, entries, latest, rest, capacity}
-use Rattle.journal.proofs.Ring.{first-listed}
+use Rattle.journal.specs.Journal.{entryAt, before, backwards, entries, latest, rest, capacity}
+use Rattle.journal.proofs.Ring.{first-backwards}
 use Rattle.journal.proofs.recall.Statement.{statement}
 use Rattle.journal.proofs.recall.Tie as tie
 
 returns : tie.Need-returns
-unfolding entries listed
+unfolding entries backwards
 returns c = let none = sym (c .before .used .ensures) ∙ c .if1 .taken in (rw none, rw none)
 
 returns-2 : tie.Need-returns-2
@@ -28,9 +28,9 @@ returns-2 c =
     let count : min (at-used .used .result - 1) capacity ≡ n - 1 = omega (arith, at-used .used .ensures) in
     let place : (at-next .next .result + 63) % 64 ≡ before at = omega (arith, at-next .next .ensures) in
     let around : (at-next .next .result + 63) % 64 % 64 ≡ before at = omega (arith, at-next .next .ensures) in
-    let parts = first-listed n at (entryAt l) some in (
+    let parts = first-backwards n at (entryAt l) some in (
       ap Recalled.Latest (at-entry-at .entry-at .ensures ∙ ap (entryAt l) place) ∙ sym (ap latest parts),
-      c .mark .ensures ∙ ap₂ (λ k p. listed k p (entryAt l)) count around ∙ sym (ap rest parts),
+      c .mark .ensures ∙ ap₂ (λ k p. backwards k p (entryAt l)) count around ∙ sym (ap rest parts),
     )
 
 pub recall-spec : {M : Type 1} → statement M

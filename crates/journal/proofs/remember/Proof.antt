@@ -5,7 +5,7 @@ use mathlib.Core.List.{_∷_}
 use mathlib.Core.Path.{_≡_, _∙_, ap, ap₂}
 use native.Mathlib.Omega.{arith}
 use lib.ListN.{getD, take}
-use Rattle.journal.specs.Journal.{entryAt, listed, entries, capacity}
+use Rattle.journal.specs.Journal.{entryAt, backwards, entries, capacity}
 use Rattle.journal.proofs.Ring.{after, pushed}
 use Rattle.journal.proofs.remember.Statement.{statement}
 use Rattle.journal.proofs.remember.Tie as tie
@@ -25,9 +25,9 @@ returns c =
     let place : (at + 1) % 64 % 64 ≡ after at = omega arith in
     let inside : at < 64 = omega (arith, at-next .next .ensures) in
     c .mark .ensures
-    ∙ ap₂ (λ k p. listed k p (entryAt m)) count place
+    ∙ ap₂ (λ k p. backwards k p (entryAt m)) count place
     ∙ pushed n at (entryAt l) (entryAt m) (args .e) inside (at-put .put .ensures .0) (at-put .put .ensures .1)
-    ∙ ap (λ p. take capacity (args .e ∷ listed (min n capacity) p (entryAt l))) (at-next .next .ensures)
+    ∙ ap (λ p. take capacity (args .e ∷ backwards (min n capacity) p (entryAt l))) (at-next .next .ensures)
 
 pub remember-spec : {M : Type 1} → statement M
 remember-spec =

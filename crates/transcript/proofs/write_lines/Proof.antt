@@ -14,7 +14,7 @@ use Rattle.execute.specs.Execute.{obey}
 use Rattle.listing.specs.History.{History}
 use Rattle.listing.specs.Words.{earlierBy, historyBy, responseBy}
 use Rattle.execute.proofs.Variants.{no-access}
-use Rattle.journal.specs.Journal.{listed, entries}
+use Rattle.journal.specs.Journal.{backwards, entries}
 use Rattle.execute.proofs.Ran.{access-ran, other-ran}
 use Rattle.transcript.proofs.Running.{Running, running-start}
 use Rattle.transcript.proofs.Turn.{turn-end, turn-size, turn-on}
@@ -33,7 +33,7 @@ abbrev beginning : Machine → History
 beginning m = record { machine = m; earlier = [] }
 
 loop-holds : tie.Need-loop-holds Inv-loop μ-loop
-unfolding entries listed earlierBy
+unfolding entries backwards earlierBy
 loop-holds c =
     let at-start = c .before .before .before .before .before in
     running-start (ap beginning (c .before .fresh .ensures)) (at-start .pre .0) (at-start .pre .1)
