@@ -41,6 +41,8 @@ static int gives(const uint8_t *session, size_t length, const char *lines)
 /* What pmu_run must run, and the constants of the header: the number of the first that is not so, or 0. */
 static int wrongly_refused(void)
 {
+    const uint8_t back[5] = {0x02, 0x01, 0x07, 0x07, 0x00};
+
     if (pmu_room() != PMU_ROOM)
         return 1;
     if (!gives(NULL, 0, "1 refused 2\n") || !gives(out + 1, 0, "1 refused 2\n"))
@@ -49,6 +51,8 @@ static int wrongly_refused(void)
         return 3;
     if (!gives(input, PMU_LONGEST, "1 end\n") || !gives(input, PMU_LONGEST + 1, "0 refused 6\n"))
         return 4;
+    if (!gives(back, sizeof back, "1 ok\n2 ok\n3 refused 18\n4 end\n"))
+        return 5;
     return 0;
 }
 

@@ -98,12 +98,27 @@ pub(super) fn over(rows: &[Row]) -> Vec<Session> {
 }
 
 /// Steps after which the record is as before. They are taken back like others.
-const IDLE: [Row; 19] = [
+const IDLE: [Row; 26] = [
     ("trap-1", &[(EN, 0), (LEVEL, 0)], |s| s.access(counter_word(false, 3, 1), 9)),
+    ("trap-1-of-pmswinc", &[(EN, 0), (LEVEL, 0)], |s| s.access(PMSWINC, 9)),
     ("trap-2", &[(LEVEL, 1)], |s| s.access(counter_word(false, 4, 1), 9)),
     ("trap-3", &[(TPM_EL3, 1), (LEVEL, 2)], |s| s.access(PMSWINC, 1)),
+    ("trap-fine-grained", &[(FGT, 1), (FGTEN, 1), (FGT_COUNTER_WRITE, 1), (LEVEL, 1)], |s| {
+        s.access(counter_word(false, 3, 1), 9)
+    }),
+    ("trap-fine-grained-of-pmswinc", &[(FGT, 1), (FGTEN, 1), (FGT_SWINC, 1), (LEVEL, 0)], |s| {
+        s.access(PMSWINC, 9)
+    }),
+    ("trap-tpm-of-pmswinc", &[(TPM_EL2, 1), (LEVEL, 1)], |s| s.access(PMSWINC, 9)),
     ("trap-of-pmicntr", &[(ENPM2, 0), (LEVEL, 0)], |s| s.access(ICNTR_WRITE, 9)),
+    ("trap-of-pmicntr-read", &[(FGT2, 1), (FGTEN2, 0), (LEVEL, 1)], |s| s.access(ICNTR_READ, 0)),
+    (
+        "trap-fine-grained-of-pmicntr",
+        &[(FGT2, 1), (FGTEN2, 1), (NPMICNTR_READ, 1), (LEVEL, 1)],
+        |s| s.access(ICNTR_WRITE, 9),
+    ),
     ("trap-of-pmsicr", &[(TPMS, 1), (LEVEL, 1)], |s| s.access(PMSICR_WRITE, 9)),
+    ("trap-nspb", &[(NSPB, 0), (LEVEL, 2)], |s| s.access(PMSICR_WRITE, 9)),
     ("undef-counter", &[(LEVEL, 3)], |s| s.access(counter_word(false, 6, 1), 9)),
     ("undef-pmswinc", &[(LEVEL, 3)], |s| s.access(word(true, 9, 12, 4, 2), 1)),
     ("undef-pmsicr", &[(LEVEL, 0)], |s| s.access(PMSICR_WRITE, 9)),
@@ -202,9 +217,24 @@ fn level_walk_session() -> Vec<u8> {
     script.finish()
 }
 
+/// Traps that TGE sends to EL2. Level 1 is refused then, so that what is seen in
+/// between is seen from outside.
+fn tge_session() -> Vec<u8> {
+    let mut script = start(&[(EN, 0), (TGE, 1), (LEVEL, 0)]);
+    script.external_write(PMCNTENSET, 0x20);
+    script.access(counter_word(false, 3, 1), 9);
+    script.access(PMSWINC, 9);
+    for _ in 0..4 {
+        script.external_read(PMCNTENSET);
+        script.back(1);
+    }
+    script.finish()
+}
+
 pub fn sessions() -> Vec<Session> {
     let mut list = over(&IDLE);
     list.extend(over(&WRITES));
+    list.push(Session::new("back-over-trap-1-to-el2", tge_session()));
     list.push(Session::new("back-over-each-level", levels_session()));
     list.push(Session::new("back-over-a-walk-of-levels", level_walk_session()));
     list

@@ -113,7 +113,7 @@ const ALL: [Row; 1] = [(
 
 /// External writes. Bits that had their value already keep it when the write is
 /// taken back, and so do bits of counters that there are not.
-const EXTERNAL: [Row; 21] = [
+const EXTERNAL: [Row; 22] = [
     ("enables-new", &[(ENABLES, ENABLE_F0)], |s| s.external_write(PMCNTENSET, 0x3F)),
     ("enables-in-part", &[(ENABLES, ENABLE_F0 | 5)], |s| s.external_write(PMCNTENSET, 0xF)),
     ("enables-all", &[(ENABLES, ENABLE_F0 | 5)], |s| s.external_write(PMCNTENSET, u64::MAX)),
@@ -137,6 +137,7 @@ const EXTERNAL: [Row; 21] = [
     ("external-absent", &[(EXT64, 0)], |s| s.external_write(PMCNTENSET, u64::MAX)),
     ("external-error", &[(OS_LOCK, 1)], |s| s.external_write(PMCNTENSET, u64::MAX)),
     ("external-error-flags", &[(POWERED, 0)], |s| s.external_write(PMOVSSET, u64::MAX)),
+    ("external-error-clear", &[(ALLOWED, 0), (PMOVS, 7)], |s| s.external_write(PMOVSCLR, 7)),
     ("external-other", &[], |s| s.external_write(0xC04, u64::MAX)),
     ("external-other-in-error", &[(DOUBLE_LOCK, 1)], |s| s.external_write(0xC81, u64::MAX)),
 ];

@@ -91,7 +91,7 @@ fn each_step_back_is_over_its_step() {
 }
 
 /// What is taken back: the step, its answer, and whether the record had changed.
-const TAKEN: [(&str, &str, &[bool]); 32] = [
+const TAKEN: [(&str, &str, &[bool]); 37] = [
     ("write PMEVCNTR", "ok", &[true, false]),
     ("write PMEVCNTR", "trap 1", &[false]),
     ("write PMEVCNTR", "trap 2", &[false]),
@@ -101,19 +101,24 @@ const TAKEN: [(&str, &str, &[bool]); 32] = [
     ("read PMEVCNTR", "trap 3", &[false]),
     ("read PMEVCNTR", "undef", &[false]),
     ("write PMSWINC", "ok", &[true, false]),
+    ("write PMSWINC", "trap 1", &[false]),
+    ("write PMSWINC", "trap 2", &[false]),
     ("write PMSWINC", "trap 3", &[false]),
     ("read PMSWINC", "undef", &[false]),
     ("write PMICNTR", "ok", &[true, false]),
     ("write PMICNTR", "trap 3", &[false]),
     ("read PMICNTR", "value", &[false]),
+    ("read PMICNTR", "trap 2", &[false]),
     ("write PMSICR", "ok", &[true]),
     ("write PMSICR", "trap 2", &[false]),
+    ("write PMSICR", "trap 3", &[false]),
     ("write PMSICR", "undef", &[false]),
     ("read PMSICR", "value", &[false]),
     ("no register", "other", &[false]),
     ("C00", "ok", &[true, false]),
     ("C00", "error", &[false]),
     ("C80", "ok", &[true, false]),
+    ("C80", "error", &[false]),
     ("CC0", "ok", &[true, false]),
     ("CC0", "error", &[false]),
     ("no offset", "other", &[false]),
@@ -138,6 +143,20 @@ fn every_kind_of_step_is_taken_back() {
             let one = (name.to_string(), answer.to_string(), changed);
             assert!(seen.contains(&one), "{one:?}");
         }
+    }
+}
+
+/// MODEL D1 to D9: a trap of each cause, and of PMUSERENR_EL0 to both of its targets.
+#[test]
+fn traps_of_every_cause_are_taken_back() {
+    let mut seen = BTreeSet::new();
+    for step in all_backs().into_iter().filter_map(|back| back.step) {
+        if let Answer::Trap { target, cause, .. } = step.answer {
+            seen.insert((cause.number(), target));
+        }
+    }
+    for one in [(1, 1), (1, 2), (2, 2), (3, 2), (4, 2), (5, 3), (6, 3), (7, 2), (8, 2), (9, 3)] {
+        assert!(seen.contains(&one), "{one:?}");
     }
 }
 
