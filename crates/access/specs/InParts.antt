@@ -9,8 +9,7 @@ use Rattle.machine.specs.declared.Settings.{Settings}
 use Rattle.machine.specs.declared.Values.{Values}
 use Rattle.machine.specs.Machine.{machineOf, withCounters, withValues}
 use Rattle.rules.specs.declared.Decision.{Decision}
-use Rattle.rules.specs.declared.Place.{Place}
-use Rattle.rules.specs.Apply.{valueAt, withValue, takenBy, shownBy, apply}
+use Rattle.rules.specs.Apply.{apply}
 use Rattle.undo.specs.declared.Change.{Change}
 use Rattle.undo.specs.Undo.{changeOf}
 use Rattle.access.specs.declared.Said.{Said}
@@ -22,17 +21,6 @@ pub record InParts (o : Outcome) (kept : Change) (said : Said) (after : List ℕ
   pub values : said .values ≡ o .machine .values
   pub counters : after ≡ o .machine .counters
   pub change : said .change ≡ kept
-
--- MODEL X4: what MRS answers of a place, where the record has these settings, counters and values, whatever the rest of it
-abbrev pub Shown : Place → Settings → List ℕ → Values → ℕ → Type 0
-Shown p s c v y = (l : ℕ) (e : List ℕ) → y ≡ shownBy p s (valueAt p (machineOf l s e c v))
-
--- MODEL X4: such a record after x is written to a place, with the counters c′ and the values v′
-abbrev pub Put : Place → ℕ → Settings → List ℕ → Values → List ℕ → Values → Type 0
-Put p x s c v c′ v′ =
-    (l : ℕ) (e : List ℕ)
-    → (c′ ≡ withValue p (takenBy p s x) (machineOf l s e c v) .counters)
-    × (v′ ≡ withValue p (takenBy p s x) (machineOf l s e c v) .values)
 
 -- MODEL X4: a decision applied to the record with these settings, event numbers, counters and values, whatever its level
 abbrev pub Applied : Decision → Settings → List ℕ → List ℕ → Values → Said → List ℕ → Type 0

@@ -1,7 +1,7 @@
 // The access: decide, by a view in which there is no counter, then apply. `in_parts` has the counters of a record lent and
 // changed there, and `in_parts_decoded` so of a word that is taken apart already; `step` takes and returns a record by value.
 ghost use mathlib.Core.Path.{_≡_};
-ghost use Rattle.access.specs.InParts.{InParts, Shown, Put, Applied};
+ghost use Rattle.access.specs.InParts.{InParts, Applied};
 ghost use Rattle.machine.specs.Machine.{machineOf};
 ghost use Rattle.rules.specs.Step.{step, stepDecoded};
 ghost use Rattle.undo.specs.Undo.{changeBy, changeDecoded};
@@ -12,7 +12,6 @@ use machine::Settings;
 use machine::Values;
 use rules::Decision;
 use rules::Instruction;
-use rules::Place;
 use undo::Change;
 
 // What an access answers, what the record holds after it beside the event counters, and the field that is kept of it, with what
@@ -21,32 +20,6 @@ pub struct Said {
     pub answer: Answer,
     pub values: Values,
     pub change: Change,
-}
-
-// What MRS answers of a place.
-fn shown(counters: &[u64], s: Settings, v: Values, place: Place) -> u64
-    ensures { λ y. ⌜ Shown place s (now (counters .entry)) v y ⌝ }
-{
-    match place {
-        Place::Counter(m) => counters::read(counters, m),
-        Place::Instructions => v.instructions,
-        Place::Interval => pmsicr::implemented(s.features.ernd, v.pmsicr),
-        Place::Nvmem => v.nvmem,
-    }
-}
-
-// A number written to a place. The event counters are lent, the other values are returned.
-fn put(counters: &mut [u64], s: Settings, v: Values, place: Place, x: u64) -> Values
-    ensures { λ after. ⌜ Put place x s (now (counters .entry)) v (now (counters .exit)) after ⌝ }
-{
-    let mut values = v;
-    match place {
-        Place::Counter(m) => counters::store(counters, s.features.p5, m, x),
-        Place::Instructions => values.instructions = x,
-        Place::Interval => values.pmsicr = pmsicr::implemented(s.features.ernd, x),
-        Place::Nvmem => values.nvmem = x,
-    }
-    values
 }
 
 // What was decided, done to the counters that are lent. The level plays no part.
@@ -61,7 +34,7 @@ fn apply(d: Decision, counters: &mut [u64], events: &[u16], s: Settings, v: Valu
         },
         Decision::Read { place, rt } => Said {
             answer: Answer::Mrs {
-                value: shown(counters, s, v, place),
+                value: places::shown(counters, s, v, place),
                 rt: rt,
             },
             values: v,
@@ -71,7 +44,7 @@ fn apply(d: Decision, counters: &mut [u64], events: &[u16], s: Settings, v: Valu
             let change = undo::of_place(counters, v, place);
             Said {
                 answer: Answer::Ok,
-                values: put(counters, s, v, place, value),
+                values: places::put(counters, s, v, place, value),
                 change: change,
             }
         }

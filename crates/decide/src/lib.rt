@@ -1,8 +1,5 @@
 // The decision about an access: the state refusal, then what is undefined at once, then the order of traps, then what a
 // permitted access does. No counter is among what it is given.
-pub mod enabled; // enabled.rt: which event counters are enabled
-pub mod permitted; // permitted.rt: what a permitted access is to do
-
 ghost use mathlib.Core.Path.{_≡_};
 ghost use Rattle.rules.specs.Traps.{stopOf};
 ghost use Rattle.rules.specs.Step.{undefinedAtOnce, decideRegister, decideDecoded, decide};
