@@ -22,6 +22,8 @@ use Rattle.answer.specs.declared.Refusal.the-variants.{
   TgeAtEl1,
   FeatureMissing,
   NothingToUndo,
+  SetTooWide,
+  LongFormTooLong,
 }
 
 -- MODEL R0: a refusal's number. Below, each with the clause of its number
@@ -56,6 +58,10 @@ refusalNumber TgeAtEl1 = 16
 refusalNumber FeatureMissing = 17
 -- MODEL R18: nothing is listed that could be taken back
 refusalNumber NothingToUndo = 18
+-- MODEL R19: a set of the short form with more bytes than its value needs
+refusalNumber SetTooWide = 19
+-- MODEL R20: the long form of a short session has too many bytes
+refusalNumber LongFormTooLong = 20
 
 -- MODEL L4: the level that takes a trap, as a number
 abbrev pub levelNumber : Level → ℕ

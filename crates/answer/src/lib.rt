@@ -21,6 +21,8 @@ pub enum Refusal {
     TgeAtEl1,
     FeatureMissing,
     NothingToUndo,
+    SetTooWide,
+    LongFormTooLong,
 }
 
 // The exception level that takes a trap.
@@ -87,6 +89,8 @@ pub fn refusal_number(r: Refusal) -> u8
         Refusal::TgeAtEl1 => 16,
         Refusal::FeatureMissing => 17,
         Refusal::NothingToUndo => 18,
+        Refusal::SetTooWide => 19,
+        Refusal::LongFormTooLong => 20,
     }
 }
 

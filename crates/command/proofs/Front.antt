@@ -9,32 +9,33 @@ use lib.Dec.{ltb}
 use lib.ListN.{length, getD, drop}
 use Rattle.answer.specs.declared.Refusal.the-variants.{UnknownCommand, Truncated}
 use Rattle.command.specs.declared.Command.{Command}
+use Rattle.command.specs.declared.Form.{Form}
 use Rattle.command.specs.Command.{operandBytes, isUnknown, commandWith, commandOf}
 
-pub front-none : (s : List ℕ) → length s ≡ 0 → commandOf s ≡ Command.Bad Truncated
+pub front-none : (f : Form) (s : List ℕ) → length s ≡ 0 → commandOf f s ≡ Command.Bad Truncated
 unfolding commandOf
-front-none [] h = refl
-front-none (c ∷ s) h = let z : ⊥ = omega arith in absurd z
+front-none f [] h = refl
+front-none f (c ∷ s) h = let z : ⊥ = omega arith in absurd z
 
 -- the front-tests on bytes that are not empty
 front-tests :
-    (s : List ℕ) → 0 < length s
-    → commandOf s
-    ≡ cond (isUnknown (getD s 0 0)) (Command.Bad UnknownCommand)
-    (cond (ltb (length s - 1) (operandBytes (getD s 0 0))) (Command.Bad Truncated) (commandWith (getD s 0 0) (drop 1 s)))
+    (f : Form) (s : List ℕ) → 0 < length s
+    → commandOf f s
+    ≡ cond (isUnknown f (getD s 0 0)) (Command.Bad UnknownCommand)
+    (cond (ltb (length s - 1) (operandBytes (getD s 0 0))) (Command.Bad Truncated) (commandWith f (getD s 0 0) (drop 1 s)))
 unfolding commandOf
-front-tests [] h = let z : ⊥ = omega arith in absurd z
-front-tests (c ∷ s) h = let e : suc (length s) - 1 ≡ length s = omega arith in rw e
+front-tests f [] h = let z : ⊥ = omega arith in absurd z
+front-tests f (c ∷ s) h = let e : suc (length s) - 1 ≡ length s = omega arith in rw e
 
-module _ (s : List ℕ) (filled : 0 < length s) where
-  pub front-unknown : isUnknown (getD s 0 0) ≡ true → commandOf s ≡ Command.Bad UnknownCommand
-  front-unknown h = front-tests s filled ∙ rw h
+module _ (f : Form) (s : List ℕ) (filled : 0 < length s) where
+  pub front-unknown : isUnknown f (getD s 0 0) ≡ true → commandOf f s ≡ Command.Bad UnknownCommand
+  front-unknown h = front-tests f s filled ∙ rw h
 
   pub front-cut :
-      isUnknown (getD s 0 0) ≡ false → length s - 1 < operandBytes (getD s 0 0) → commandOf s ≡ Command.Bad Truncated
-  front-cut k h = front-tests s filled ∙ rw (k, lt-ltb (length s - 1) (operandBytes (getD s 0 0)) h)
+      isUnknown f (getD s 0 0) ≡ false → length s - 1 < operandBytes (getD s 0 0) → commandOf f s ≡ Command.Bad Truncated
+  front-cut k h = front-tests f s filled ∙ rw (k, lt-ltb (length s - 1) (operandBytes (getD s 0 0)) h)
 
   pub front-whole :
-      isUnknown (getD s 0 0) ≡ false → operandBytes (getD s 0 0) ≤ length s - 1
-      → commandOf s ≡ commandWith (getD s 0 0) (drop 1 s)
-  front-whole k h = front-tests s filled ∙ rw (k, le-ltb (length s - 1) (operandBytes (getD s 0 0)) h)
+      isUnknown f (getD s 0 0) ≡ false → operandBytes (getD s 0 0) ≤ length s - 1
+      → commandOf f s ≡ commandWith f (getD s 0 0) (drop 1 s)
+  front-whole k h = front-tests f s filled ∙ rw (k, le-ltb (length s - 1) (operandBytes (getD s 0 0)) h)

@@ -3,3 +3,4 @@ pub mod Front
 pub mod Operands
 pub mod Sizes
 pub mod Fuel
+pub mod Width

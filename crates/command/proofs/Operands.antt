@@ -6,7 +6,7 @@ use native.Mathlib.Nat.{pow-succ', mul-assoc}
 use native.Mathlib.Omega.{arith}
 use lib.ListN.{length, getD, take, drop, length-drop}
 use lib.Seq.{take-add, drop-drop, drop-cons, length-take-le}
-use Rattle.command.specs.Command.{little, operand}
+use Rattle.command.specs.Operand.{little, operand}
 
 little-append : (a b : List ℕ) → little (a ++ b) ≡ little a + 256 ^ length a * little b
 little-append [] b = omega arith

@@ -9,6 +9,7 @@ use lib.Dec.{leb, ltb}
 use lib.ListN.{length, getD}
 use Rattle.answer.specs.declared.Refusal.the-variants.{UnknownCommand, Truncated}
 use Rattle.command.specs.declared.Command.{Command}
+use Rattle.command.specs.declared.Form.{Form}
 use Rattle.bits.proofs.Choice.{either}
 use Rattle.command.specs.Command.{operandBytes, isUnknown, commandWith, commandOf, sizeAt, isLast, isBack}
 
@@ -21,7 +22,7 @@ size-some [] h = let z : ⊥ = omega arith in absurd z
 size-some (c ∷ s) h = refl
 
 pub few-operands : (c : ℕ) → operandBytes c ≤ 12
-few-operands c = search (either (λ n. n ≤ 12), leb-true) depth 10
+few-operands c = search (either (λ n. n ≤ 12), leb-true) depth 12
 
 -- a command with n bytes of operands: if it is neither the last nor a step back, it has some
 HasOperands : Command → ℕ → Type 0
@@ -45,34 +46,34 @@ back-operands : HasOperands Command.Back 0
 unfolding HasOperands
 back-operands e k = absurd (true≢false k)
 
-with-operands : (c : ℕ) (s : List ℕ) → HasOperands (commandWith c s) (operandBytes c)
-with-operands c s = search (either-operands, operands, end-operands, back-operands) depth 10
+with-operands : (f : Form) (c : ℕ) (s : List ℕ) → HasOperands (commandWith f c s) (operandBytes c)
+with-operands f c s = search (either-operands, operands, end-operands, back-operands) depth 12
 
 -- past a command that is not the last
-pub size-bounds : (s : List ℕ) → isLast (commandOf s) ≡ false → (1 ≤ sizeAt s) × (sizeAt s ≤ length s)
+pub size-bounds : (f : Form) (s : List ℕ) → isLast (commandOf f s) ≡ false → (1 ≤ sizeAt s) × (sizeAt s ≤ length s)
 unfolding commandOf
-size-bounds [] e = absurd (true≢false e)
-size-bounds (c ∷ s) e = go (isUnknown c) (ltb (length s) (operandBytes c)) refl e
+size-bounds f [] e = absurd (true≢false e)
+size-bounds f (c ∷ s) e = go (isUnknown f c) (ltb (length s) (operandBytes c)) refl e
   where
     go :
         (a b : Bool) → ltb (length s) (operandBytes c) ≡ b
-        → isLast (cond a (Command.Bad UnknownCommand) (cond b (Command.Bad Truncated) (commandWith c s))) ≡ false
+        → isLast (cond a (Command.Bad UnknownCommand) (cond b (Command.Bad Truncated) (commandWith f c s))) ≡ false
         → (1 ≤ 1 + operandBytes c) × (1 + operandBytes c ≤ suc (length s))
     go true b q e = absurd (true≢false e)
     go false true q e = absurd (true≢false e)
     go false false q e = (omega arith, omega (arith, ltb-false (length s) (operandBytes c) q))
 
 -- and no step back
-pub two-or-more : (s : List ℕ) → isLast (commandOf s) ≡ false → isBack (commandOf s) ≡ false → 2 ≤ sizeAt s
+pub two-or-more : (f : Form) (s : List ℕ) → isLast (commandOf f s) ≡ false → isBack (commandOf f s) ≡ false → 2 ≤ sizeAt s
 unfolding commandOf HasOperands
-two-or-more [] e k = absurd (true≢false e)
-two-or-more (c ∷ s) e k = go (isUnknown c) (ltb (length s) (operandBytes c)) e k
+two-or-more f [] e k = absurd (true≢false e)
+two-or-more f (c ∷ s) e k = go (isUnknown f c) (ltb (length s) (operandBytes c)) e k
   where
     go :
         (a b : Bool)
-        → isLast (cond a (Command.Bad UnknownCommand) (cond b (Command.Bad Truncated) (commandWith c s))) ≡ false
-        → isBack (cond a (Command.Bad UnknownCommand) (cond b (Command.Bad Truncated) (commandWith c s))) ≡ false
+        → isLast (cond a (Command.Bad UnknownCommand) (cond b (Command.Bad Truncated) (commandWith f c s))) ≡ false
+        → isBack (cond a (Command.Bad UnknownCommand) (cond b (Command.Bad Truncated) (commandWith f c s))) ≡ false
         → 2 ≤ 1 + operandBytes c
     go true b e k = absurd (true≢false e)
     go false true e k = absurd (true≢false e)
-    go false false e k = omega (arith, with-operands c s e k)
+    go false false e k = omega (arith, with-operands f c s e k)

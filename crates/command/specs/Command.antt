@@ -1,22 +1,18 @@
 -- Commands out of a session's bytes: which there are, how many bytes each takes, and which is the last.
-use Prim.Native.Nat.{ℕ, zero, suc, _+_, _*_}
+use Prim.Native.Nat.{ℕ, zero, suc, _+_, _^_}
 use mathlib.Core.Bool.{Bool, true, false, cond}
 use mathlib.Core.List.{List, [], _∷_}
-use lib.Dec.{ltb, eqb}
-use lib.ListN.{length, take, drop}
-use Rattle.answer.specs.declared.Refusal.the-variants.{UnknownCommand, Truncated}
+use lib.Dec.{leb, ltb, eqb}
+use lib.ListN.{length, drop}
+use Rattle.answer.specs.declared.Refusal.{Refusal}
+use Rattle.answer.specs.declared.Refusal.the-variants.{UnknownCommand, Truncated, SetTooWide}
+use Rattle.answer.specs.Numbers.{refusalNumber}
 use Rattle.command.specs.declared.Command.{Command}
+use Rattle.command.specs.declared.Form.{Form}
+use Rattle.command.specs.Form.{formOf, bodyOf}
+use Rattle.command.specs.Operand.{operand}
 
--- MODEL S7: the number that little-endian bytes hold
-abbrev pub little : List ℕ → ℕ
-little [] = 0
-little (b ∷ rest) = b + 256 * little rest
-
--- MODEL S1: the number in count bytes from a place
-abbrev pub operand : List ℕ → ℕ → ℕ → ℕ
-operand s at count = little (take count (drop at s))
-
--- MODEL S1: the bytes of the operands behind each command byte
+-- MODEL S1 and Z2: the bytes of the operands behind each command byte
 abbrev pub operandBytes : ℕ → ℕ
 operandBytes c =
     cond (eqb c 0x01) 9
@@ -26,36 +22,58 @@ operandBytes c =
     (cond (eqb c 0x05) 10
     (cond (eqb c 0x06) 1
     (cond (eqb c 0x07) 0
-    (cond (eqb c 0x08) 1 0)))))))
+    (cond (eqb c 0x08) 1
+    (cond (eqb c 0x11) 2
+    (cond (eqb c 0x12) 5 0)))))))))
 
--- MODEL R1: no command has this byte
-abbrev pub isUnknown : ℕ → Bool
-isUnknown c = ltb 0x08 c
+-- MODEL R1 and Z2: no command of the form has this byte
+abbrev pub isUnknown : Form → ℕ → Bool
+isUnknown Form.Long c = ltb 0x08 c
+isUnknown Form.Short c = cond (eqb c 0x11) false (cond (eqb c 0x12) false (ltb 0x08 c))
 
--- MODEL S1: the command with byte c and the operands that follow it
-abbrev pub commandWith : ℕ → List ℕ → Command
-commandWith c s =
-    cond (eqb c 0x01) (Command.Set (operand s 0 1) (operand s 1 8))
+-- MODEL Z3: how many bytes the narrowest of the short form's sets that holds a value gives it
+abbrev pub narrowest : ℕ → ℕ
+narrowest v = cond (ltb v (256 ^ 1)) 1 (cond (ltb v (256 ^ 4)) 4 8)
+
+-- MODEL Z3: the form has a narrower set for the value than one with k bytes
+abbrev pub isTooWide : Form → ℕ → ℕ → Bool
+isTooWide Form.Long k v = false
+isTooWide Form.Short k v = ltb (narrowest v) k
+
+-- MODEL S1, Z2 and R19: the set of field a to value v, which has k bytes
+abbrev pub setOf : Form → ℕ → ℕ → ℕ → Command
+setOf f k a v = cond (isTooWide f k v) (Command.Bad SetTooWide) (Command.Set a v)
+
+-- MODEL S1 and Z2: the command with byte c and the operands that follow it
+abbrev pub commandWith : Form → ℕ → List ℕ → Command
+commandWith f c s =
+    cond (eqb c 0x01) (setOf f 8 (operand s 0 1) (operand s 1 8))
     (cond (eqb c 0x02) (Command.Level (operand s 0 1))
     (cond (eqb c 0x03) (Command.Access (operand s 0 4) (operand s 4 8))
     (cond (eqb c 0x04) (Command.Read (operand s 0 2))
     (cond (eqb c 0x05) (Command.Write (operand s 0 2) (operand s 2 8))
     (cond (eqb c 0x06) (Command.Tick (operand s 0 1))
     (cond (eqb c 0x07) Command.Back
-    (cond (eqb c 0x08) (Command.Member (operand s 0 1)) Command.End)))))))
+    (cond (eqb c 0x08) (Command.Member (operand s 0 1))
+    (cond (eqb c 0x11) (setOf f 1 (operand s 0 1) (operand s 1 1))
+    (cond (eqb c 0x12) (setOf f 4 (operand s 0 1) (operand s 1 4)) Command.End)))))))))
 
--- MODEL R1, R2 and V1: the command that the bytes begin with, unless refused with 1, else with 2
-unfoldable pub commandOf : List ℕ → Command
-commandOf [] = Command.Bad Truncated
-commandOf (c ∷ rest) =
-    cond (isUnknown c) (Command.Bad UnknownCommand)
+-- MODEL R1, R2, R19 and V1: the command that the bytes begin with, unless refused with 1, else with 2, else with 19
+unfoldable pub commandOf : Form → List ℕ → Command
+commandOf f [] = Command.Bad Truncated
+commandOf f (c ∷ rest) =
+    cond (isUnknown f c) (Command.Bad UnknownCommand)
     (cond (ltb (length rest) (operandBytes c)) (Command.Bad Truncated)
-    (commandWith c rest))
+    (commandWith f c rest))
 
 -- MODEL S1: how many bytes the command at the front takes, its own among them
 abbrev pub sizeAt : List ℕ → ℕ
 sizeAt [] = 0
 sizeAt (c ∷ rest) = 1 + operandBytes c
+
+-- MODEL V2: reading stops behind refusals 1 and 2
+abbrev pub stopsReading : Refusal → Bool
+stopsReading r = leb (refusalNumber r) 2
 
 -- MODEL V2 and S3: reading stops behind this command
 abbrev pub isLast : Command → Bool
@@ -68,19 +86,23 @@ isLast (Command.Write o x) = false
 isLast (Command.Tick p) = false
 isLast Command.Back = false
 isLast (Command.Member d) = false
-isLast (Command.Bad r) = true
+isLast (Command.Bad r) = stopsReading r
 
 -- MODEL S4 and V2: the commands that the bytes hold, as far as reading goes. The number bounds how many are read: a command takes
 -- a byte or more
-unfoldable pub commandsFrom : ℕ → List ℕ → List Command
-commandsFrom zero s = []
-commandsFrom (suc n) s =
-    let c = commandOf s in
-    c ∷ cond (isLast c) [] (commandsFrom n (drop (sizeAt s) s))
+unfoldable pub commandsFrom : Form → ℕ → List ℕ → List Command
+commandsFrom f zero s = []
+commandsFrom f (suc n) s =
+    let c = commandOf f s in
+    c ∷ cond (isLast c) [] (commandsFrom f n (drop (sizeAt s) s))
 
--- MODEL S4 and V2: the commands of a session
-unfoldable pub commandsOf : List ℕ → List Command
-commandsOf s = commandsFrom (suc (length s)) s
+-- MODEL S4 and V2: the commands of bytes in a form
+unfoldable pub commandsIn : Form → List ℕ → List Command
+commandsIn f s = commandsFrom f (suc (length s)) s
+
+-- MODEL S4 and Z1: the commands of a session
+abbrev pub commandsOf : List ℕ → List Command
+commandsOf s = commandsIn (formOf s) (bodyOf s)
 
 -- MODEL S1: the command is an access
 abbrev pub isAccess : Command → Bool

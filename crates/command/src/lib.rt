@@ -1,11 +1,19 @@
 // A session's bytes as commands: the command that they begin with, with its little-endian operands, or why there is none.
+pub mod forms; // forms.rt: the form of a session, and what each form has of commands
 pub mod reading; // reading.rt: how far reading goes on
 
 ghost use mathlib.Core.Path.{_≡_};
 ghost use Prim.Native.Nat.{_+_, _≤_, _<_, _^_};
 ghost use lib.ListN.{length, drop};
-ghost use Rattle.command.specs.Command.{operand, operandBytes, commandWith, commandOf};
+ghost use Rattle.command.specs.Operand.{operand};
+ghost use Rattle.command.specs.Command.{operandBytes, commandWith, commandOf};
 use answer::Refusal;
+
+// The form of a session's bytes. The short form begins with the byte 10, and its sets have values of 1, 4 or 8 bytes.
+pub enum Form {
+    Long,
+    Short,
+}
 
 // A command of a session with its operands, or why its bytes are none.
 pub enum Command {
@@ -65,20 +73,19 @@ fn operand_bytes(c: u8) -> usize
         0x06 => 1,
         0x07 => 0,
         0x08 => 1,
+        0x11 => 2,
+        0x12 => 5,
         _ => 0,
     }
 }
 
 // The command with byte c, whose operands are all there.
-fn command_with(c: u8, t: &[u8]) -> Command
+fn command_with(f: Form, c: u8, t: &[u8]) -> Command
     requires { ⌜ 1 + operandBytes c ≤ length (now t) ⌝ }
-    ensures { λ r. ⌜ r ≡ commandWith c (drop 1 (now (t .entry))) ⌝ }
+    ensures { λ r. ⌜ r ≡ commandWith f c (drop 1 (now (t .entry))) ⌝ }
 {
     match c {
-        0x01 => Command::Set {
-            field: t[1],
-            value: eight(t, 2),
-        },
+        0x01 => forms::set_of(f, 8, t[1], eight(t, 2)),
         0x02 => Command::Level { level: t[1] },
         0x03 => Command::Access {
             word: four(t, 1) as u32,
@@ -94,23 +101,25 @@ fn command_with(c: u8, t: &[u8]) -> Command
         0x06 => Command::Tick { prohibited: t[1] },
         0x07 => Command::Back,
         0x08 => Command::Member { draw: t[1] },
+        0x11 => forms::set_of(f, 1, t[1], zero_extend(t[2])),
+        0x12 => forms::set_of(f, 4, t[1], four(t, 2)),
         _ => Command::End,
     }
 }
 
-// The command that the bytes begin with.
-pub fn command_of(t: &[u8]) -> Command
-    ensures { λ r. ⌜ r ≡ commandOf (now (t .entry)) ⌝ }
+// The command that the bytes, in a form, begin with.
+pub fn command_of(f: Form, t: &[u8]) -> Command
+    ensures { λ r. ⌜ r ≡ commandOf f (now (t .entry)) ⌝ }
 {
     if t.len() == 0 {
         return Command::Bad(Refusal::Truncated);
     }
     let c = t[0];
-    if 0x08 < c {
+    if forms::is_unknown(f, c) {
         return Command::Bad(Refusal::UnknownCommand);
     }
     if t.len() - 1 < operand_bytes(c) {
         return Command::Bad(Refusal::Truncated);
     }
-    command_with(c, t)
+    command_with(f, c, t)
 }

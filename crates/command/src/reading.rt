@@ -33,6 +33,6 @@ pub fn is_last(c: Command) -> bool
         Command::Tick { prohibited: _ } => false,
         Command::Back => false,
         Command::Member { draw: _ } => false,
-        Command::Bad(_) => true,
+        Command::Bad(r) => answer::refusal_number(r) <= 2,
     }
 }

@@ -11,14 +11,16 @@ use Rattle.answer.specs.declared.Answer.{Answer}
 use Rattle.answer.specs.declared.Refusal.the-variants.{FieldTooLarge}
 use Rattle.answer.specs.Refused.{isRefused}
 use Rattle.command.specs.declared.Command.{Command}
-use Rattle.command.specs.Command.{commandOf, sizeAt, isLast, commandsFrom, commandsOf}
+use Rattle.command.specs.declared.Form.{Form}
+use Rattle.command.specs.Form.{formOf, bodyOf}
+use Rattle.command.specs.Command.{commandOf, sizeAt, isLast, commandsFrom, commandsIn, commandsOf}
 use Rattle.execute.specs.Execute.{obey, perform}
 use Rattle.listing.specs.History.{History, Response, begun, remember, listing, emptying, keeping, backFrom}
 use Rattle.fields.specs.Largest.{largest}
 use Rattle.machine.specs.declared.Machine.{Machine}
 use Rattle.machine.specs.declared.Outcome.{Outcome}
 use Rattle.state.specs.State.{viewOf, tooLarge}
-use Rattle.transcript.specs.Session.{answersOf}
+use Rattle.transcript.specs.Session.{answersIn, answersOf}
 use Rattle.histories.proofs.Refusal10.{isRefusal10}
 use Rattle.histories.proofs.Bounded.{
   Bounded,
@@ -71,10 +73,10 @@ Sparing Command.Back = Unit {0}
 Sparing (Command.Member d) = Unit {0}
 Sparing (Command.Bad n) = isRefusal10 (Answer.Refused n) ≡ false
 
-front-spares : (s : List ℕ) → Sparing (commandOf s)
+front-spares : (f : Form) (s : List ℕ) → Sparing (commandOf f s)
 unfolding commandOf
-front-spares [] = refl
-front-spares (c ∷ s) = search (either Sparing) depth 13
+front-spares f [] = refl
+front-spares f (c ∷ s) = search (either Sparing) depth 16
 
 -- record and list after a command, and its answer
 record FitsOn (o : Response) : Type 0 where
@@ -125,13 +127,13 @@ abbrev AllSpare : List Command → Type 0
 AllSpare [] = Unit {0}
 AllSpare (c ∷ cs) = Sparing c × AllSpare cs
 
-commands-spare : (n : ℕ) (s : List ℕ) → AllSpare (commandsFrom n s)
+commands-spare : (f : Form) (n : ℕ) (s : List ℕ) → AllSpare (commandsFrom f n s)
 unfolding commandsFrom
-commands-spare zero s = tt
-commands-spare (suc n) s =
+commands-spare f zero s = tt
+commands-spare f (suc n) s =
     let next = drop (sizeAt s) s in (
-      front-spares s,
-      either AllSpare (isLast (commandOf s)) [] (commandsFrom n next) tt (λ e. commands-spare n next),
+      front-spares f s,
+      either AllSpare (isLast (commandOf f s)) [] (commandsFrom f n next) tt (λ e. commands-spare f n next),
     )
 
 -- the answers of such commands, from a record and list on that do not meet refusal 10
@@ -147,5 +149,5 @@ answers-fit (c ∷ cs) k f m h =
 
 -- whatever the bytes, no answer is refusal 10
 pub never-refusal-10 : (s : List ℕ) → all NotRefusal10 (answersOf s)
-unfolding answersOf commandsOf tooLarge viewOf largest
-never-refusal-10 s = answers-fit (commandsOf s) begun (commands-spare (suc (length s)) s) refl tt
+unfolding answersIn commandsIn tooLarge viewOf largest
+never-refusal-10 s = answers-fit (commandsOf s) begun (commands-spare (formOf s) (suc (length (bodyOf s))) (bodyOf s)) refl tt

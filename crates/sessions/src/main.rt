@@ -11,7 +11,7 @@ fn show(name: &[u8]) -> bool {
         os::fail(name);
         return true;
     }
-    let mut input = [0u8; 4097];
+    let mut input = [0u8; 4098];
     let written = console::run(fd, name, &mut input);
     libc::close(fd);
     written

@@ -11,11 +11,12 @@ use lib.ListN.{length}
 use Rattle.answer.specs.declared.Answer.{Answer}
 use Rattle.answer.specs.declared.Refusal.the-variants.{SessionTooLong}
 use Rattle.answer.specs.Numbers.{refusalNumber, levelNumber, causeNumber}
-use Rattle.command.specs.Command.{commandsFrom, commandsOf}
+use Rattle.command.specs.Command.{commandsFrom, commandsIn}
+use Rattle.command.specs.Form.{bodyOf, longest}
 use Rattle.execute.specs.Execute.{perform}
 use Rattle.line.specs.Line.{textOf, lineOf}
 use Rattle.text.specs.Text.{bytes, decimalDigits, decimal, hex}
-use Rattle.transcript.specs.Session.{linesFrom, longest, answersOf, outputOf}
+use Rattle.transcript.specs.Session.{linesFrom, answersIn, answersOf, outputOf}
 
 -- how many line ends a text has
 abbrev pub lineEnd : ℕ → ℕ
@@ -122,8 +123,8 @@ last-end p a (b ∷ l) =
 
 -- the whole output does, whatever the bytes
 pub output-ends : (s : List ℕ) → (q : List ℕ) × (outputOf s ≡ q ++ (10 ∷ []))
-unfolding outputOf answersOf commandsOf commandsFrom perform lineOf
-output-ends s = go (ltb longest (length s))
+unfolding outputOf answersIn commandsIn commandsFrom perform lineOf
+output-ends s = go (ltb longest (length (bodyOf s)))
   where
     go :
         (b : Bool)

@@ -9,6 +9,7 @@ use lib.ListN.{length, drop, length-append}
 use Rattle.answer.specs.declared.Answer.{Answer}
 use Rattle.answer.specs.declared.Refusal.the-variants.{NothingToUndo}
 use Rattle.command.specs.declared.Command.{Command}
+use Rattle.command.specs.declared.Form.{Form}
 use Rattle.command.specs.Command.{sizeAt, isLast, isBack}
 use Rattle.command.proofs.Sizes.{size-bounds, two-or-more}
 use Rattle.execute.specs.Execute.{obey}
@@ -55,20 +56,20 @@ is-back Command.Back e = refl
 is-back (Command.Member d) e = cc
 is-back (Command.Bad n) e = cc
 
-module _ {s out₀ out : List ℕ} {m : History} {at end p : ℕ} (r : Running s out₀ out m at end p) where
+module _ {f : Form} {s out₀ out : List ℕ} {m : History} {at end p : ℕ} (r : Running f s out₀ out m at end p) where
   -- the room that a line takes is that of the bytes of its command
   pub line-fits :
       {out′ : List ℕ} {end′ : ℕ}
-      → Written out end (lineAt s m at p) out′ end′
+      → Written out end (lineAt f s m at p) out′ end′
       → end′ ≤ end + 32
-      → isLast (commandAt s at) ≡ false
+      → isLast (commandAt f s at) ≡ false
       → end′ ≤ end + 16 * sizeAt (drop at s)
-  line-fits {out′} {end′} w short e = go (isBack (commandAt s at)) refl
+  line-fits {out′} {end′} w short e = go (isBack (commandAt f s at)) refl
     where
-      go : (b : Bool) → isBack (commandAt s at) ≡ b → end′ ≤ end + 16 * sizeAt (drop at s)
-      go false k = omega (arith, two-or-more (drop at s) e k)
+      go : (b : Bool) → isBack (commandAt f s at) ≡ b → end′ ≤ end + 16 * sizeAt (drop at s)
+      go false k = omega (arith, two-or-more f (drop at s) e k)
       go true k =
-          let here = is-back (commandAt s at) k in
+          let here = is-back (commandAt f s at) k in
           let fits = back-line p m (omega (arith, r .counted, r .within, r .limit)) in
           let line = subst (λ (c : Command). length (lineOf p (obey c m .answer)) ≤ 16) (sym here) fits in
-          omega (arith, w .behind, line, size-bounds (drop at s) e .0)
+          omega (arith, w .behind, line, size-bounds f (drop at s) e .0)

@@ -13,11 +13,11 @@ use Rattle.rules.specs.Permitted.{placeAccess}
 use Rattle.rules.specs.Apply.{apply}
 use Rattle.rules.specs.Step.{decideRegister, decide, step}
 use Rattle.text.specs.Text.{bytes, decimal, hex}
-use Rattle.command.specs.Command.{commandOf, commandsFrom, commandsOf}
+use Rattle.command.specs.Command.{commandOf, commandsFrom, commandsIn}
 use Rattle.line.specs.Line.{textOf, lineOf}
 use Rattle.execute.specs.Execute.{tickCommand, obey, perform}
 use Rattle.listing.specs.History.{remember}
-use Rattle.transcript.specs.Session.{linesFrom, answersOf, outputOf}
+use Rattle.transcript.specs.Session.{linesFrom, answersIn, outputOf}
 use Rattle.transcript.specs.Example.{Example, examples}
 
 pub examples-hold : map (λ (e : Example). outputOf (e .input)) examples ≡ map (λ (e : Example). bytes (e .output)) examples
@@ -27,5 +27,5 @@ unfolding
     named register syndrome decode written disabledTarget stopAtEl3 counterRules rulesOf stopOf placeAccess
     decideRegister decide apply step decimal hex commandOf textOf lineOf
     implemented withPrimary withSecondary started secondaryCounts primaryCounts counted effectOf member
-    remember tickCommand obey perform commandsFrom commandsOf linesFrom answersOf outputOf examples
+    remember tickCommand obey perform commandsFrom commandsIn linesFrom answersIn outputOf examples
 examples-hold = refl

@@ -1,13 +1,9 @@
 -- The worked session, and sessions at the edges of what is run, as data: bytes, and the whole output.
-use Prim.Native.Nat.{ℕ, zero, suc, _/_, _%_}
+use Prim.Native.Nat.{ℕ}
 use Prim.Native.String.{String}
 use mathlib.Core.List.{List, [], _∷_, _++_}
 use lib.ListN.{replicate}
-
--- MODEL S7: the low k bytes of n, little-endian
-abbrev pub littleBytes : ℕ → ℕ → List ℕ
-littleBytes zero n = []
-littleBytes (suc k) n = n % 256 ∷ littleBytes k (n / 256)
+use Rattle.command.specs.Operand.{littleBytes}
 
 -- MODEL S7: v:n of the notation, a value of 8 bytes
 abbrev pub v : ℕ → List ℕ
@@ -62,4 +58,37 @@ examples =
     }
     -- MODEL R1: the byte behind the last command's
     ∷ record { input = 0x09 ∷ 0x00 ∷ []; output = "1 refused 1\n" }
+    -- MODEL Z1 and S5: nothing behind the byte 10, at the limit and one byte over it
+    ∷ record { input = 0x10 ∷ []; output = "1 refused 2\n" }
+    ∷ record { input = 0x10 ∷ replicate 4096 0x00; output = "1 end\n" }
+    ∷ record { input = 0x10 ∷ replicate 4097 0x00; output = "0 refused 6\n" }
+    -- MODEL Z2: sets of the three widths, each as narrow as it can be
+    ∷ record {
+      input =
+          0x10
+          ∷ (0x11 ∷ 0x0C ∷ 0x1F ∷ [])
+          ++ (0x12 ∷ 0x60 ∷ 0x00 ∷ 0x01 ∷ 0x00 ∷ 0x00 ∷ [])
+          ++ (0x01 ∷ 0x61 ∷ v 0x100000000)
+          ++ (0x00 ∷ []);
+      output = "1 ok\n2 ok\n3 ok\n4 end\n";
+    }
+    -- MODEL Z3, R19, V1 and V2: a byte in four, four in eight; before 3 and 4, and reading goes on
+    ∷ record {
+      input =
+          0x10
+          ∷ (0x12 ∷ 0x0C ∷ 0xFF ∷ 0x00 ∷ 0x00 ∷ 0x00 ∷ [])
+          ++ (0x01 ∷ 0x0D ∷ v 0xFFFFFFFF)
+          ++ (0x11 ∷ 0x0D ∷ 0x00 ∷ [])
+          ++ (0x11 ∷ 0x0C ∷ 0x20 ∷ [])
+          ++ (0x00 ∷ []);
+      output = "1 refused 19\n2 refused 19\n3 refused 3\n4 refused 4\n5 end\n";
+    }
+    -- MODEL R2 and V1: cut off before it is too wide
+    ∷ record { input = 0x10 ∷ 0x12 ∷ 0x0C ∷ 0x01 ∷ 0x00 ∷ 0x00 ∷ []; output = "1 refused 2\n" }
+    -- MODEL Z2 and R1: the short form's sets in the long form, and the byte 10 behind the first
+    ∷ record { input = 0x11 ∷ 0x00 ∷ 0x01 ∷ 0x00 ∷ []; output = "1 refused 1\n" }
+    ∷ record { input = 0x12 ∷ 0x00 ∷ 0x01 ∷ 0x00 ∷ 0x00 ∷ 0x00 ∷ 0x00 ∷ []; output = "1 refused 1\n" }
+    ∷ record { input = 0x10 ∷ 0x10 ∷ 0x00 ∷ []; output = "1 refused 1\n" }
+    ∷ record { input = 0x02 ∷ 0x00 ∷ 0x10 ∷ 0x00 ∷ []; output = "1 ok\n2 refused 1\n" }
+    ∷ record { input = 0x10 ∷ 0x13 ∷ 0x00 ∷ []; output = "1 refused 1\n" }
     ∷ []

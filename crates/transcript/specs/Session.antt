@@ -7,7 +7,9 @@ use lib.ListN.{length, drop}
 use Rattle.answer.specs.declared.Answer.{Answer}
 use Rattle.answer.specs.declared.Refusal.the-variants.{SessionTooLong}
 use Rattle.transcript.specs.declared.Output.{Output}
-use Rattle.command.specs.Command.{commandsOf}
+use Rattle.command.specs.declared.Form.{Form}
+use Rattle.command.specs.Command.{commandsIn}
+use Rattle.command.specs.Form.{formOf, bodyOf, longest}
 use Rattle.execute.specs.Execute.{perform}
 use Rattle.listing.specs.History.{begun}
 use Rattle.line.specs.Line.{lineOf}
@@ -17,17 +19,17 @@ unfoldable pub linesFrom : ℕ → List Answer → List ℕ
 linesFrom position [] = []
 linesFrom position (a ∷ rest) = lineOf position a ++ linesFrom (suc position) rest
 
--- MODEL S5: the limit, in bytes
-abbrev pub longest : ℕ
-longest = 4096
+-- MODEL S2 and S4: the answers of bytes in a form: their commands, run from the fresh record, with nothing listed
+unfoldable pub answersIn : Form → List ℕ → List Answer
+answersIn f s = perform (commandsIn f s) begun .answers
 
--- MODEL S2 and S4: the answers of a session that is not too long: its commands, run from the fresh record, with nothing listed
-unfoldable pub answersOf : List ℕ → List Answer
-answersOf s = perform (commandsOf s) begun .answers
+-- MODEL S2, S4 and Z1: the answers of a session that is not too long
+abbrev pub answersOf : List ℕ → List Answer
+answersOf s = answersIn (formOf s) (bodyOf s)
 
--- MODEL R6, S5 and V1: the whole output
+-- MODEL R6, S5, Z1 and V1: the whole output. The limit does not count the byte that a short session begins with
 unfoldable pub outputOf : List ℕ → List ℕ
-outputOf s = cond (ltb longest (length s)) (lineOf 0 (Answer.Refused SessionTooLong)) (linesFrom 1 (answersOf s))
+outputOf s = cond (ltb longest (length (bodyOf s))) (lineOf 0 (Answer.Refused SessionTooLong)) (linesFrom 1 (answersOf s))
 
 -- MODEL X1: the bytes that any session's output fits into: a line has at most 32 bytes, and a command that is not the last
 -- takes 2 or more of at most 4,096, but for the step back, whose line has at most 16; so a byte of input prints 16 at most,

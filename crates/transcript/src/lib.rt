@@ -3,20 +3,22 @@ ghost use mathlib.Core.Path.{_≡_};
 ghost use Prim.Native.Nat.{_≤_};
 ghost use lib.ListN.{length};
 ghost use Rattle.text.specs.Written.{Written};
-ghost use Rattle.transcript.specs.Session.{linesFrom, longest, answersOf, room, resultOf, bufferOf};
+ghost use Rattle.command.specs.Form.{longest};
+ghost use Rattle.transcript.specs.Session.{linesFrom, answersIn, room, resultOf, bufferOf};
 use answer::Answer;
 use answer::Refusal;
 use command::Command;
+use command::Form;
 
 // The bytes that any session's output fits into: `room` of specs/Session.antt.
 pub const ROOM: usize = 65600;
 
-// Writes the lines of a session that is not too long, from the fresh record on. The record is a local, and its counters are
-// one of their own: an access has them lent, and every other command takes and returns the whole record by value.
+// Writes the lines of the commands in bytes of a form, not too many, from the fresh record on. The record is a local, and its
+// counters are one of their own: an access has them lent, and every other command takes and returns the whole record by value.
 // The table of registers is made once, and lent for each word; the words of the undo list are lent to each command.
-fn write_lines(input: &[u8], out: &mut [u8]) -> usize
+fn write_lines(f: Form, input: &[u8], out: &mut [u8]) -> usize
     requires { ⌜ (length (now input) ≤ longest) × (room ≤ length (now out)) ⌝ }
-    ensures { λ end. ⌜ Written (now (out .entry)) 0 (linesFrom 1 (answersOf (now (input .entry)))) (now (out .exit)) end
+    ensures { λ end. ⌜ Written (now (out .entry)) 0 (linesFrom 1 (answersIn f (now (input .entry)))) (now (out .exit)) end
         × (end ≤ length (now (out .entry))) ⌝ }
 {
     let registers = word::table::registers();
@@ -27,7 +29,7 @@ fn write_lines(input: &[u8], out: &mut [u8]) -> usize
     let mut end: usize = 0;
     let mut position: u64 = 1;
     loop {
-        let c = command::command_of(&input[at..]);
+        let c = command::command_of(f, &input[at..]);
         let size = command::reading::size_at(&input[at..]);
         let mut a = Answer::End;
         match c {
@@ -87,8 +89,10 @@ pub fn session(input: &[u8], out: &mut [u8]) -> Output
     if out.len() < ROOM {
         return Output::Short;
     }
-    if 4096 < input.len() {
+    let f = command::forms::form_of(input);
+    let start = command::forms::body_start(input);
+    if 4096 < input.len() - start {
         return Output::Bytes(line::line(out, 0, 0, Answer::Refused(Refusal::SessionTooLong)));
     }
-    Output::Bytes(write_lines(input, out))
+    Output::Bytes(write_lines(f, &input[start..], out))
 }

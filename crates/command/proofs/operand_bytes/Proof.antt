@@ -1,35 +1,13 @@
--- `command::operand_bytes` meets its contract: a case for each branch, by the contracts of what it calls.
+-- `command::operand_bytes` meets its contract: a case for each branch.
 use borrow.Author.Tests.{ne-eqb}
 use Rattle.command.proofs.operand_bytes.Statement.{statement}
 use Rattle.command.proofs.operand_bytes.Tie as tie
 
-returns : tie.Need-returns
-returns c = simp (c .match .keys1)
-
-returns-2 : tie.Need-returns-2
-returns-2 c = simp (c .match .keys2)
-
-returns-3 : tie.Need-returns-3
-returns-3 c = simp (c .match .keys3)
-
-returns-4 : tie.Need-returns-4
-returns-4 c = simp (c .match .keys4)
-
-returns-5 : tie.Need-returns-5
-returns-5 c = simp (c .match .keys5)
-
-returns-6 : tie.Need-returns-6
-returns-6 c = simp (c .match .keys6)
-
-returns-7 : tie.Need-returns-7
-returns-7 c = simp (c .match .keys7)
-
-returns-8 : tie.Need-returns-8
-returns-8 c = simp (c .match .keys8)
-
-returns-9 : tie.Need-returns-9
-returns-9 c =
+returns-11 : tie.Need-returns-11
+returns-11 c =
     simp (
+      ne-eqb _ _ (c .match .rest .0 .0 .0 .0 .0 .0 .0 .0 .0 .1),
+      ne-eqb _ _ (c .match .rest .0 .0 .0 .0 .0 .0 .0 .0 .1),
       ne-eqb _ _ (c .match .rest .0 .0 .0 .0 .0 .0 .0 .1),
       ne-eqb _ _ (c .match .rest .0 .0 .0 .0 .0 .0 .1),
       ne-eqb _ _ (c .match .rest .0 .0 .0 .0 .0 .1),
@@ -42,4 +20,16 @@ returns-9 c =
 
 pub operand-bytes-spec : {M : Type 1} → statement M
 operand-bytes-spec =
-    tie.close (tie.spec returns returns-2 returns-3 returns-4 returns-5 returns-6 returns-7 returns-8 returns-9)
+    tie.close
+    (tie.spec
+    (λ c. simp (c .match .keys1))
+    (λ c. simp (c .match .keys2))
+    (λ c. simp (c .match .keys3))
+    (λ c. simp (c .match .keys4))
+    (λ c. simp (c .match .keys5))
+    (λ c. simp (c .match .keys6))
+    (λ c. simp (c .match .keys7))
+    (λ c. simp (c .match .keys8))
+    (λ c. simp (c .match .keys9))
+    (λ c. simp (c .match .keys10))
+    returns-11)

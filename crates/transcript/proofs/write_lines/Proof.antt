@@ -22,11 +22,11 @@ use Rattle.transcript.proofs.write_lines.Statement.{statement}
 use Rattle.transcript.proofs.write_lines.Tie as tie
 
 abbrev Inv-loop : tie.InvT-loop
-Inv-loop input out₀ registers m₀ counters₀ list₀ at₀ end₀ position₀ out m counters list at end position =
-    Running input out₀ out (historyBy (withCounters counters m) list) at end position
+Inv-loop f input out₀ registers m₀ counters₀ list₀ at₀ end₀ position₀ out m counters list at end position =
+    Running f input out₀ out (historyBy (withCounters counters m) list) at end position
 
 abbrev μ-loop : tie.MeasureT-loop
-μ-loop input out₀ registers m₀ counters₀ list₀ at₀ end₀ position₀ out m counters list at end position = length input - at
+μ-loop f input out₀ registers m₀ counters₀ list₀ at₀ end₀ position₀ out m counters list at end position = length input - at
 
 -- nothing is listed
 abbrev beginning : Machine → History

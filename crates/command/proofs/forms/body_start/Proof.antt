@@ -1,0 +1,19 @@
+-- `command::forms::body_start` meets its contract.
+use Prim.Native.Nat.{_≤_}
+use mathlib.Core.Path.{_∙_, ap, subst, sym}
+use native.Mathlib.Omega.{arith}
+use borrow.Author.Needs.{needs}
+use lib.ListN.{length}
+use Rattle.command.specs.Form.{headOf}
+use Rattle.command.proofs.Width.{head-fits}
+use Rattle.command.proofs.forms.body_start.Statement.{statement}
+use Rattle.command.proofs.forms.body_start.Tie as tie
+
+returns : tie.Need-returns
+returns c =
+    let at-start = c .before .before .before in
+    let size = c .head-size .ensures ∙ ap (λ f. length (headOf f)) (c .before .form-of .ensures) in
+    (size, omega (arith, size, head-fits (at-start .args .s .now)))
+
+pub body-start-spec : {M : Type 1} → statement M
+body-start-spec = tie.close (tie.spec (λ c κs. search needs) (λ c κs. search needs) returns)
