@@ -26,6 +26,10 @@ mod sampling;
 mod sampling_input;
 mod sampling_start;
 mod script;
+mod short;
+mod short_back;
+mod short_input;
+mod short_limits;
 mod state;
 mod swinc;
 #[cfg(test)]
@@ -77,6 +81,10 @@ pub fn all() -> Vec<Session> {
         back_mixed::sessions,
         back_among::sessions,
         back_input::sessions,
+        short::sessions,
+        short_back::sessions,
+        short_input::sessions,
+        short_limits::sessions,
     ];
     subjects.iter().flat_map(|sessions| sessions()).collect()
 }

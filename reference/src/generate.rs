@@ -2,11 +2,13 @@
 //! the model goes along, only to steer: it takes part in no expectation.
 
 use crate::back::Earlier;
+use crate::form::{Form, SHORT_FORM};
 use crate::model::{Answer, Machine};
 use crate::session::{self, Command, LIMIT};
 
 mod back;
 mod sampling;
+mod short;
 mod stops;
 
 use sampling::pmsicr_word;
@@ -49,6 +51,11 @@ impl Rng {
 /// A session in the making.
 struct Writer {
     rng: Rng,
+    form: Form,
+    /// How often, in a hundred, a set of the short form is too wide.
+    wide: u64,
+    /// How many bytes the sets would have more in the long form.
+    saved: usize,
     bytes: Vec<u8>,
     machine: Machine,
     /// What the machine can be taken back to.
@@ -108,13 +115,6 @@ const STOPPING: [u8; 9] = [0x25, 0x26, 0x28, 0x2C, 0x2D, 0x2E, 0x39, 0x3A, 0x3C]
 impl Writer {
     fn obey(&mut self, command: Command) {
         session::obey(&mut self.machine, &mut self.earlier, command);
-    }
-
-    fn set(&mut self, field: u8, value: u64) {
-        self.bytes.push(0x01);
-        self.bytes.push(field);
-        self.bytes.extend(value.to_le_bytes());
-        self.obey(Command::Set { field, value });
     }
 
     fn level(&mut self, level: u8) {
@@ -231,7 +231,7 @@ impl Writer {
     fn counters(&mut self) {
         for m in 0..31 {
             if self.rng.chance(25) {
-                let event = self.rng.pick(&[0, 1, 8, 0x11, 0x100, 0xFFFF]);
+                let event = self.rng.pick(&[0, 1, 8, 0x11, 0xFF, 0x100, 0xFFFF]);
                 self.set(0x40 + m, event);
             }
             if self.rng.chance(50) {
@@ -282,9 +282,9 @@ impl Writer {
     fn operand(&mut self) -> u64 {
         let small = self.rng.below(256);
         let any = self.rng.next();
-        match self.rng.below(11) {
+        match self.rng.below(12) {
             0 => small,
-            1 => 0xFFFF_FFFF,
+            1 => self.rng.pick(&[0xFF, 0x100, 0xFFFF_FFFF, 0x1_0000_0000]),
             2 => u64::MAX,
             3 => 0xFFFF_FFFF - small % 3,
             4 => u64::MAX - small % 3,
@@ -293,6 +293,7 @@ impl Writer {
             7 => 0x1_0000_0000 + small % 3,
             8 => small << 32 | 0xFFFF_FFFF,
             9 => any | 0xFFFF_FFFF,
+            10 => 0xFFFF_FFFF,
             _ => any,
         }
     }
@@ -870,23 +871,24 @@ impl Writer {
     /// Mostly the end command alone.
     fn ending(&mut self) {
         match self.rng.below(100) {
-            0..=69 => self.bytes.push(0x00),
-            70..=77 => {
+            0..=68 => self.bytes.push(0x00),
+            69..=76 => {
                 self.bytes.push(0x00);
                 let count = 1 + self.rng.below(20) as usize;
                 self.noise(count);
             }
-            78..=83 => {
-                let first = self.rng.pick(&[0x09, 0x0A, 0x10, 0x87, 0xFF]);
+            77..=82 => {
+                let first = self.no_command();
                 self.bytes.push(first);
                 self.noise(5);
             }
-            84..=91 => {
+            83..=90 if self.rng.chance(40) => self.cut_set(),
+            83..=90 => {
                 let cut = 1 + self.rng.below(13) as usize;
                 self.bytes.truncate(self.bytes.len().saturating_sub(cut));
             }
-            92..=94 => {}
-            95..=97 => {
+            91..=93 => {}
+            94..=96 => {
                 self.bytes.push(0x00);
                 self.fill();
             }
@@ -904,36 +906,57 @@ impl Writer {
     /// Bytes after the end, up to the limit or just over it.
     fn fill(&mut self) {
         let size = LIMIT + self.rng.pick(&[0, 0, 1, 1, 100]) - self.rng.below(2) as usize;
-        self.noise(size.saturating_sub(self.bytes.len()));
+        self.noise(size.saturating_sub(self.counted()));
     }
 
-    /// Commands up to the limit or over it, the end included.
+    /// Commands up to the limit or over it, the end included. MODEL Z5: in the short form
+    /// it is mostly that of the long form.
     fn overrun(&mut self) {
         let size = LIMIT - 1 + self.rng.below(3) as usize;
-        while self.bytes.len() + 16 < size {
+        let long = self.rng.chance(70);
+        let now = |writer: &Writer| writer.counted() + if long { writer.saved } else { 0 };
+        while now(self) + 16 < size {
             self.command();
         }
-        while self.bytes.len() + 1 < size {
+        while now(self) + 1 < size {
             self.tick(0);
         }
         self.bytes.push(0x00);
     }
 }
 
+impl Writer {
+    /// A session without a byte but for the one in front of a short form.
+    fn new(seed: u64, index: u64) -> Writer {
+        let mut rng = Rng::new(seed, index);
+        let trapping = rng.pick(&[3, 10, 10, 25]);
+        let short = rng.chance(40);
+        let (form, bytes) =
+            if short { (Form::Short, vec![SHORT_FORM]) } else { (Form::Long, Vec::new()) };
+        let wide = if short { rng.pick(&[0, 0, 0, 0, 0, 0, 2, 10]) } else { 0 };
+        Writer {
+            rng,
+            form,
+            wide,
+            saved: 0,
+            bytes,
+            machine: Machine::default(),
+            earlier: Earlier::default(),
+            trapping,
+        }
+    }
+}
+
 /// One session, always the same for the same numbers.
 pub fn session(seed: u64, index: u64) -> Vec<u8> {
-    let mut rng = Rng::new(seed, index);
-    let trapping = rng.pick(&[3, 10, 10, 25]);
-    let mut writer = Writer {
-        rng,
-        bytes: Vec::new(),
-        machine: Machine::default(),
-        earlier: Earlier::default(),
-        trapping,
-    };
+    let mut writer = Writer::new(seed, index);
     if writer.rng.chance(3) {
         let count = writer.rng.below(30) as usize;
-        writer.noise(count);
+        if writer.rng.chance(50) {
+            writer.noise(count);
+        } else {
+            writer.low_noise(count);
+        }
         return writer.bytes;
     }
     writer.features();
@@ -958,5 +981,8 @@ pub fn session(seed: u64, index: u64) -> Vec<u8> {
         writer.dump();
     }
     writer.ending();
+    if writer.rng.chance(5) {
+        writer.misplace();
+    }
     writer.bytes
 }

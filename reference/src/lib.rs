@@ -4,7 +4,9 @@
 //! run it beside another program, and the program `reference` over it.
 
 pub mod back;
+pub mod convert;
 pub mod directed;
+pub mod form;
 pub mod generate;
 pub mod model;
 pub mod notation;

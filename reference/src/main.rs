@@ -1,8 +1,8 @@
-//! A reference program for the model of docs/MODEL.md. It runs sessions, turns
-//! the notation of docs/SESSIONS.md into bytes and back, makes pseudo-random
-//! and directed sessions, and prints hashes of their outputs.
+//! A reference program for the model of docs/MODEL.md. It runs sessions, turns them
+//! into their other form, turns the notation of docs/SESSIONS.md into bytes and back,
+//! makes pseudo-random and directed sessions, and prints hashes of their outputs.
 
-use reference::{directed, generate, notation, session};
+use reference::{convert, directed, generate, notation, session};
 use std::fs;
 use std::io::{self, Read, Write};
 use std::path::{Path, PathBuf};
@@ -10,6 +10,7 @@ use std::process::ExitCode;
 
 const USAGE: &str = "usage:
   reference run [FILE]                 run a session, print its output
+  reference convert [FILE]             a session to its other form
   reference assemble [FILE]            notation to bytes
   reference disassemble [FILE]         bytes to notation
   reference generate SEED COUNT DIR    write DIR/NNNNNN.bin
@@ -22,6 +23,8 @@ fn main() -> ExitCode {
     let done = match arguments[..] {
         ["run"] => run(None),
         ["run", file] => run(Some(file)),
+        ["convert"] => convert(None),
+        ["convert", file] => convert(Some(file)),
         ["assemble"] => assemble(None),
         ["assemble", file] => assemble(Some(file)),
         ["disassemble"] => disassemble(None),
@@ -61,6 +64,14 @@ fn output(bytes: &[u8]) -> Result<(), String> {
 
 fn run(file: Option<&str>) -> Result<(), String> {
     output(session::run(&input(file)?).as_bytes())
+}
+
+/// MODEL Z5: where it is refused, nothing is written but the number, to standard error.
+fn convert(file: Option<&str>) -> Result<(), String> {
+    match convert::convert(&input(file)?) {
+        Ok(other) => output(&other),
+        Err(number) => Err(format!("refused {number}")),
+    }
 }
 
 fn assemble(file: Option<&str>) -> Result<(), String> {

@@ -2,8 +2,9 @@
 //! of 8 bytes, little-endian, n decimal or 0x and hexadecimal. `#` starts a
 //! comment. Assembling what was disassembled gives the same bytes.
 
+use crate::form::{split, Form, SHORT_FORM};
 use crate::model::{Move, Register};
-use crate::session::{parse, Command, Parsed};
+use crate::session::{read, Command, Parsed};
 
 /// Text to bytes.
 pub fn assemble(text: &str) -> Result<Vec<u8>, String> {
@@ -47,29 +48,43 @@ fn digits_only(text: &str, radix: u32) -> Option<u64> {
 /// Bytes to text, one command a line.
 pub fn disassemble(bytes: &[u8]) -> String {
     let mut text = String::new();
-    let mut at = 0;
-    loop {
-        let rest = &bytes[at..];
-        match parse(rest) {
+    let (form, mut rest) = split(bytes);
+    if form == Form::Short {
+        plain(&mut text, &[SHORT_FORM], "short form");
+    }
+    for parsed in read(form, rest) {
+        match parsed {
             Parsed::Command(command, length) => {
-                text.push_str(&format!("{}  # {}\n", code(command), comment(command)));
-                at += length;
-                if command == Command::End {
-                    plain(&mut text, &bytes[at..], "after the end");
-                    return text;
-                }
+                line(&mut text, &rest[..length], command, "");
+                rest = &rest[length..];
+            }
+            Parsed::TooWide(command, length) => {
+                line(&mut text, &rest[..length], command, ", too wide");
+                rest = &rest[length..];
             }
             Parsed::Unknown => {
                 plain(&mut text, &rest[..1], "no command");
                 plain(&mut text, &rest[1..], "not read");
                 return text;
             }
-            Parsed::Short => {
+            Parsed::Cut => {
                 plain(&mut text, rest, "cut off");
                 return text;
             }
         }
     }
+    plain(&mut text, rest, "after the end");
+    text
+}
+
+/// A command by its bytes. MODEL Z2: a set of the short form with a value of 1 or 4
+/// bytes has no other notation than these.
+fn line(text: &mut String, bytes: &[u8], command: Command, remark: &str) {
+    let code = match bytes[0] {
+        0x11 | 0x12 => hexadecimal(bytes),
+        _ => code(command),
+    };
+    text.push_str(&format!("{code}  # {}{remark}\n", comment(command)));
 }
 
 /// Bytes that are no command, up to 16 a line.

@@ -1,10 +1,12 @@
-//! MODEL S1 to S6, L1 to L3 and H: sessions, a row of bytes in, lines out. A
+//! MODEL S1 to S6, Z1 to Z3, L1 to L3 and H: sessions, a row of bytes in, lines out. A
 //! session always starts from the fresh machine and with no step to take back.
 
 use crate::back::Earlier;
+use crate::form::{split, Form};
 use crate::model::{Answer, Machine};
 
-/// A session of more bytes is not run.
+/// A session of more bytes is not run. MODEL Z1: the byte in front of a short form is
+/// not counted.
 pub const LIMIT: usize = 4096;
 
 /// One command with its operands. A member is one of the sample population
@@ -27,17 +29,21 @@ pub enum Command {
 pub enum Parsed {
     /// A command and its length.
     Command(Command, usize),
+    /// MODEL R19: a set that is wider than its value needs, and its length.
+    TooWide(Command, usize),
     /// The command byte is unknown.
     Unknown,
     /// The bytes end inside a command, or there are none.
-    Short,
+    Cut,
 }
 
 /// The length of a command by its first byte.
-fn length(first: u8) -> Option<usize> {
+fn length(form: Form, first: u8) -> Option<usize> {
+    if let Some(width) = form.width(first) {
+        return Some(1 + 1 + width);
+    }
     match first {
         0x00 => Some(1),
-        0x01 => Some(1 + 1 + 8),
         0x02 => Some(1 + 1),
         0x03 => Some(1 + 4 + 8),
         0x04 => Some(1 + 2),
@@ -54,32 +60,52 @@ fn little(bytes: &[u8]) -> u64 {
     bytes.iter().rev().fold(0, |sum, &b| sum << 8 | b as u64)
 }
 
-/// Reads one command.
-pub fn parse(bytes: &[u8]) -> Parsed {
+/// Reads one command. MODEL V1 and Z3: 1 is tested first, then 2, then 19.
+pub fn parse(form: Form, bytes: &[u8]) -> Parsed {
     let first = match bytes.first() {
         Some(&first) => first,
-        None => return Parsed::Short,
+        None => return Parsed::Cut,
     };
-    let length = match length(first) {
+    let length = match length(form, first) {
         Some(length) => length,
         None => return Parsed::Unknown,
     };
     if bytes.len() < length {
-        return Parsed::Short;
+        return Parsed::Cut;
     }
     let b = &bytes[1..length];
     let command = match first {
         0x00 => Command::End,
-        0x01 => Command::Set { field: b[0], value: little(&b[1..]) },
         0x02 => Command::Level(b[0]),
         0x03 => Command::Access { word: little(&b[..4]) as u32, operand: little(&b[4..]) },
         0x04 => Command::Read { offset: little(b) as u16 },
         0x05 => Command::Write { offset: little(&b[..2]) as u16, value: little(&b[2..]) },
         0x06 => Command::Tick { prohibited: b[0] },
         0x07 => Command::Back,
-        _ => Command::Member { draw: b[0] },
+        0x08 => Command::Member { draw: b[0] },
+        _ => Command::Set { field: b[0], value: little(&b[1..]) },
     };
-    Parsed::Command(command, length)
+    match command {
+        Command::Set { value, .. } if first != form.narrowest(value) => {
+            Parsed::TooWide(command, length)
+        }
+        _ => Parsed::Command(command, length),
+    }
+}
+
+/// MODEL V2 and Z3: all that is read of a session, without the byte in front of a short
+/// form. The last one is the end command, or where 1 or 2 stops the reading.
+pub fn read(form: Form, bytes: &[u8]) -> Vec<Parsed> {
+    let mut list = Vec::new();
+    let mut rest = bytes;
+    loop {
+        let parsed = parse(form, rest);
+        list.push(parsed);
+        match parsed {
+            Parsed::Command(Command::End, _) | Parsed::Unknown | Parsed::Cut => return list,
+            Parsed::Command(_, length) | Parsed::TooWide(_, length) => rest = &rest[length..],
+        }
+    }
 }
 
 /// Obeys a command that is neither the end nor a step back.
@@ -150,27 +176,22 @@ pub fn words(answer: Answer) -> String {
 
 /// Runs a session and gives its whole output.
 pub fn run(bytes: &[u8]) -> String {
-    if bytes.len() > LIMIT {
+    let (form, body) = split(bytes);
+    if body.len() > LIMIT {
         return "0 refused 6\n".to_string();
     }
     let mut machine = Machine::default();
     let mut earlier = Earlier::default();
     let mut output = String::new();
-    let mut at = 0;
-    for position in 1.. {
-        let (text, last) = match parse(&bytes[at..]) {
-            Parsed::Unknown => ("refused 1".to_string(), true),
-            Parsed::Short => ("refused 2".to_string(), true),
-            Parsed::Command(Command::End, _) => ("end".to_string(), true),
-            Parsed::Command(command, length) => {
-                at += length;
-                (words(obey(&mut machine, &mut earlier, command)), false)
-            }
+    for (index, parsed) in read(form, body).into_iter().enumerate() {
+        let text = match parsed {
+            Parsed::Unknown => words(Answer::Refused(1)),
+            Parsed::Cut => words(Answer::Refused(2)),
+            Parsed::TooWide(..) => words(Answer::Refused(19)),
+            Parsed::Command(Command::End, _) => "end".to_string(),
+            Parsed::Command(command, _) => words(obey(&mut machine, &mut earlier, command)),
         };
-        output.push_str(&format!("{position} {text}\n"));
-        if last {
-            break;
-        }
+        output.push_str(&format!("{} {text}\n", index + 1));
     }
     output
 }

@@ -4,19 +4,24 @@
 //! T1 to T6 and I1 to I6) with the causes of traps, the overflow flags against
 //! sums of 128 bits, and the counters that are off. Causes have a file of their
 //! own, and so have accesses to PMSICR, the members of the sample population
-//! (MODEL J5 to J9), and steps back (MODEL H1 to H7).
+//! (MODEL J5 to J9), steps back (MODEL H1 to H7), and the short form (MODEL Z1 to Z8).
 
 mod back;
 mod back_sessions;
 mod causes;
 mod pmsicr;
+pub(crate) mod reading;
 mod sampling;
+mod short;
+mod short_convert;
+mod short_sessions;
 
 use crate::back::Earlier;
 use crate::generate::{self, Rng};
 use crate::model::{Answer, Machine, Move, Register};
 use crate::notation::{assemble, disassemble};
-use crate::session::{obey, parse, run, Command, Parsed, LIMIT};
+use crate::session::{obey, run, Command};
+use reading::{answered, commands};
 use std::collections::{BTreeMap, BTreeSet};
 
 /// Runs a session given in the notation.
@@ -148,9 +153,10 @@ fn notation_round_trip() {
     let mut rng = Rng::new(1, 2);
     for index in 0..4000u64 {
         let count = rng.below(80) as usize;
-        let bytes = if rng.chance(50) { 9 } else { 256 };
+        let bytes = [9, 0x14, 256][rng.below(3) as usize];
         let random: Vec<u8> = (0..count).map(|_| rng.below(bytes) as u8).collect();
-        for bytes in [random, generate::session(3, index)] {
+        let short = [&[0x10], &random[..]].concat();
+        for bytes in [random, short, generate::session(3, index)] {
             assert_eq!(assemble(&disassemble(&bytes)), Ok(bytes));
         }
     }
@@ -193,21 +199,29 @@ fn demanded(text: &str) -> String {
     output
 }
 
-/// The examples stand beside the crate, or where REFERENCE_EXAMPLES says.
-#[test]
-fn examples() {
+/// The examples and their names. They stand beside the crate, or where
+/// REFERENCE_EXAMPLES says.
+fn example_texts() -> Vec<(String, String)> {
     let beside = concat!(env!("CARGO_MANIFEST_DIR"), "/../examples");
     let directory = std::env::var("REFERENCE_EXAMPLES").unwrap_or(beside.to_string());
-    let mut count = 0;
+    let mut list = Vec::new();
     for entry in std::fs::read_dir(&directory).expect("examples") {
         let path = entry.expect("entry").path();
         if path.extension().map_or(false, |e| e == "txt") {
             let text = std::fs::read_to_string(&path).expect("text");
-            assert_eq!(run_text(&text), demanded(&text), "{}", path.display());
-            count += 1;
+            list.push((path.display().to_string(), text));
         }
     }
-    assert!(count >= 30, "only {count} examples");
+    list
+}
+
+#[test]
+fn examples() {
+    let list = example_texts();
+    for (name, text) in &list {
+        assert_eq!(run_text(text), demanded(text), "{name}");
+    }
+    assert!(list.len() >= 30, "only {} examples", list.len());
 }
 
 /// A consistent machine with random fields.

@@ -3,6 +3,7 @@
 //! docs/MODEL.md.
 
 use super::fields::*;
+use crate::form::{set_by, Form, SHORT_FORM};
 use crate::generate::{counter_word, word};
 
 /// A field, or LEVEL, and the value it is given.
@@ -91,6 +92,7 @@ pub const RUNNING: [Change; 3] = [(ENABLES, ALL_P), (PMCR_E, 1), (HPME, 1)];
 
 /// A session in the making.
 pub struct Script {
+    form: Form,
     bytes: Vec<u8>,
     values: [u64; 256],
     /// Operand of the last write, another one each time.
@@ -104,17 +106,22 @@ pub struct Script {
 
 // Single commands.
 impl Script {
-    /// A session that starts by setting the record as given.
-    pub fn new(given: &[Change]) -> Script {
-        let mut script = Script {
-            bytes: Vec::new(),
-            values: [0; 256],
-            serial: 0x1000,
-            flags: false,
-            sampling: false,
-        };
+    /// A session in a form, with its first bytes.
+    fn in_form(form: Form, bytes: Vec<u8>, given: &[Change]) -> Script {
+        let mut script =
+            Script { form, bytes, values: [0; 256], serial: 0x1000, flags: false, sampling: false };
         script.put(given);
         script
+    }
+
+    /// A session that starts by setting the record as given.
+    pub fn new(given: &[Change]) -> Script {
+        Script::in_form(Form::Long, Vec::new(), given)
+    }
+
+    /// MODEL Z1: the same in the short form.
+    pub fn short(given: &[Change]) -> Script {
+        Script::in_form(Form::Short, vec![SHORT_FORM], given)
     }
 
     /// A session on counters, the record as given besides.
@@ -143,8 +150,15 @@ impl Script {
     /// A set command that is refused.
     pub fn set_refused(&mut self, field: u8, value: u64) {
         self.flags |= field == PMOVS;
-        self.bytes.extend([0x01, field]);
-        self.bytes.extend(value.to_le_bytes());
+        self.bytes.extend(self.form.set(field, value));
+    }
+
+    /// MODEL Z2: a set command by its byte, whether it is refused or not. The script
+    /// does not follow it.
+    pub fn set_by(&mut self, byte: u8, field: u8, value: u64) {
+        self.flags |= field == PMOVS;
+        self.sampling |= (SPE..=NV_WORD).contains(&field);
+        self.bytes.extend(set_by(byte, field, value));
     }
 
     /// A level command that is not refused.

@@ -1,37 +1,34 @@
 //! What the directed sessions reach: every answer, every refusal that a session
 //! can reach, every target and every cause of a trap, every register in both
 //! directions, every overflow flag, every way to switch a counter off. What is
-//! of PMSICR alone has a file of its own, and so have steps back.
+//! of PMSICR alone has a file of its own, and so have steps back and the short form.
 
 mod back;
 mod sampling;
+mod short;
 
 use super::fields::{ALL_PMOVS, LEVEL, PMOVS};
 use super::script::{PMCNTENSET, PMOVSCLR, PMOVSSET};
 use super::{all, Session};
 use crate::back::Earlier;
 use crate::model::{Answer, Machine, Move, Register};
-use crate::session::{obey, parse, run, words, Command, Parsed, LIMIT};
+use crate::session::{obey, words, Command, LIMIT};
+use crate::tests::reading::{self, is_run};
 use std::collections::BTreeSet;
 
 /// The answers of a session, without their positions.
 fn answers(session: &Session) -> Vec<String> {
-    let answer = |line: &str| line.split_once(' ').expect("position").1.to_string();
-    run(&session.bytes).lines().map(answer).collect()
+    reading::answers(&session.bytes)
 }
 
-/// The commands of a session that is not too long, up to where reading ends.
+/// The commands that a session obeys. There is none if it is too long.
 fn commands(session: &Session) -> Vec<Command> {
-    let mut list = Vec::new();
-    let mut at = 0;
-    while let Parsed::Command(command, length) = parse(&session.bytes[at..]) {
-        list.push(command);
-        at += length;
-        if command == Command::End {
-            break;
-        }
-    }
-    list
+    reading::commands(&session.bytes)
+}
+
+/// The commands that all sessions obey, with their answers.
+fn all_answered() -> Vec<(Command, String)> {
+    all().iter().flat_map(|session| reading::answered(&session.bytes)).collect()
 }
 
 /// The register and direction of an access.
@@ -70,9 +67,9 @@ fn names_are_plain_and_different() {
         let plain = |c: char| c.is_ascii_lowercase() || c.is_ascii_digit() || c == '-';
         assert!(session.name.chars().all(plain), "{}", session.name);
         assert!(session.name.len() + ".bin".len() <= 60, "{}", session.name);
-        assert!(session.bytes.len() <= LIMIT + 1, "{}", session.name);
-        let long = session.bytes.len() > LIMIT;
-        assert!(!long || session.name.starts_with("refusal-6-"), "{}", session.name);
+        assert!(session.bytes.len() <= LIMIT + 2, "{}", session.name);
+        let run = is_run(&session.bytes);
+        assert!(run || session.name.contains("refusal-6-"), "{}", session.name);
     }
 }
 
@@ -97,7 +94,7 @@ fn every_answer_is_reached() {
     let mut wanted: BTreeSet<String> =
         ["ok", "end", "undef", "other", "error", "value", "sampled"].map(str::to_string).into();
     wanted.extend((1..=3).map(|level| format!("trap {level}")));
-    wanted.extend((1..=6).chain(11..=18).map(|number| format!("refused {number}")));
+    wanted.extend((1..=6).chain(11..=19).map(|number| format!("refused {number}")));
     assert_eq!(seen, wanted);
 }
 
@@ -117,14 +114,13 @@ fn wanted(name: &str, read: bool) -> BTreeSet<String> {
 
 #[test]
 fn every_register_and_direction_gets_each_answer() {
+    let list = all_answered();
     for name in ["PMEVCNTR", "PMSWINC", "PMICNTR", "PMSICR"] {
         for read in [true, false] {
             let mut seen = BTreeSet::new();
-            for session in all().iter().filter(|session| session.bytes.len() <= LIMIT) {
-                for (command, answer) in commands(session).into_iter().zip(answers(session)) {
-                    if target(command) == Some((name, read)) {
-                        seen.insert(kind(&answer));
-                    }
+            for (command, answer) in &list {
+                if target(*command) == Some((name, read)) {
+                    seen.insert(kind(answer));
                 }
             }
             assert_eq!(seen, wanted(name, read), "{name} read {read}");
@@ -205,7 +201,7 @@ fn every_cause_is_shown_where_it_can_be() {
         }
     }
     let mut seen = [BTreeSet::new(), BTreeSet::new()];
-    for session in all().iter().filter(|session| session.bytes.len() <= LIMIT) {
+    for session in &all() {
         for (name, read, level, answer) in accesses(session) {
             if let Some((to, cause)) = shown_trap(&answer) {
                 let index = is_called(session, "cause-") as usize;
@@ -355,18 +351,16 @@ fn hpmn_is_the_cause_at_every_counter() {
 #[test]
 fn every_command_that_tests_the_record_is_refused_by_each_number() {
     let mut seen = BTreeSet::new();
-    for session in all().iter().filter(|session| session.bytes.len() <= LIMIT) {
-        for (command, answer) in commands(session).into_iter().zip(answers(session)) {
-            let command = match command {
-                Command::Access { .. } => "access",
-                Command::Read { .. } => "external read",
-                Command::Write { .. } => "external write",
-                Command::Tick { .. } => "tick",
-                Command::Member { .. } => "member",
-                _ => continue,
-            };
-            seen.insert((command, kind(&answer)));
-        }
+    for (command, answer) in all_answered() {
+        let command = match command {
+            Command::Access { .. } => "access",
+            Command::Read { .. } => "external read",
+            Command::Write { .. } => "external write",
+            Command::Tick { .. } => "tick",
+            Command::Member { .. } => "member",
+            _ => continue,
+        };
+        seen.insert((command, kind(&answer)));
     }
     for command in ["access", "external read", "external write", "tick", "member"] {
         for number in 11..=17 {
@@ -379,16 +373,12 @@ fn every_command_that_tests_the_record_is_refused_by_each_number() {
 fn every_external_register_gets_each_answer() {
     for offset in [PMCNTENSET, PMOVSCLR, PMOVSSET] {
         let mut seen = [BTreeSet::new(), BTreeSet::new()];
-        for session in all().iter().filter(|session| session.bytes.len() <= LIMIT) {
-            for (command, answer) in commands(session).into_iter().zip(answers(session)) {
-                match command {
-                    Command::Read { offset: o } if o == offset => seen[0].insert(kind(&answer)),
-                    Command::Write { offset: o, .. } if o == offset => {
-                        seen[1].insert(kind(&answer))
-                    }
-                    _ => false,
-                };
-            }
+        for (command, answer) in all_answered() {
+            match command {
+                Command::Read { offset: o } if o == offset => seen[0].insert(kind(&answer)),
+                Command::Write { offset: o, .. } if o == offset => seen[1].insert(kind(&answer)),
+                _ => false,
+            };
         }
         for (seen, passed) in seen.into_iter().zip(["value", "ok"]) {
             let mut wanted = BTreeSet::from([passed.to_string(), "error".to_string()]);
@@ -403,15 +393,13 @@ fn every_external_register_gets_each_answer() {
 fn every_flag_is_shown() {
     for offset in [PMOVSCLR, PMOVSSET] {
         let (mut set, mut clear) = (0, 0);
-        for session in all().iter().filter(|session| session.bytes.len() <= LIMIT) {
-            for (command, answer) in commands(session).into_iter().zip(answers(session)) {
-                let digits = answer.strip_prefix("value ");
-                if let (Command::Read { offset: o }, Some(digits)) = (command, digits) {
-                    if o == offset {
-                        let value = u64::from_str_radix(digits, 16).expect("digits");
-                        set |= value;
-                        clear |= !value;
-                    }
+        for (command, answer) in all_answered() {
+            let digits = answer.strip_prefix("value ");
+            if let (Command::Read { offset: o }, Some(digits)) = (command, digits) {
+                if o == offset {
+                    let value = u64::from_str_radix(digits, 16).expect("digits");
+                    set |= value;
+                    clear |= !value;
                 }
             }
         }
@@ -424,7 +412,7 @@ fn every_flag_is_shown() {
 #[test]
 fn every_carry_is_there() {
     let mut seen = BTreeSet::new();
-    for session in all().iter().filter(|session| session.bytes.len() <= LIMIT) {
+    for session in &all() {
         let mut machine = Machine::default();
         let mut earlier = Earlier::default();
         for command in commands(session) {
@@ -449,7 +437,7 @@ fn every_carry_is_there() {
 #[test]
 fn every_switch_is_there() {
     let mut seen = BTreeSet::new();
-    for session in all().iter().filter(|session| session.bytes.len() <= LIMIT) {
+    for session in &all() {
         let mut machine = Machine::default();
         let mut earlier = Earlier::default();
         for command in commands(session) {
@@ -487,19 +475,17 @@ fn every_field_is_set_and_exceeded() {
     let mut exceeded = BTreeSet::new();
     let mut unknown = BTreeSet::new();
     let mut refused_flags = BTreeSet::new();
-    for session in all().iter().filter(|session| session.bytes.len() <= LIMIT) {
-        for (command, answer) in commands(session).into_iter().zip(answers(session)) {
-            if let Command::Set { field, value } = command {
-                if field == PMOVS && answer == "refused 4" {
-                    refused_flags.insert(value);
-                }
-                match answer.as_str() {
-                    "ok" if Machine::largest(field) == Some(value) => taken.insert(field),
-                    "ok" => false,
-                    "refused 4" => exceeded.insert(field),
-                    _ => unknown.insert(field),
-                };
+    for (command, answer) in all_answered() {
+        if let Command::Set { field, value } = command {
+            if field == PMOVS && answer == "refused 4" {
+                refused_flags.insert(value);
             }
+            match answer.as_str() {
+                "ok" if Machine::largest(field) == Some(value) => taken.insert(field),
+                "ok" => false,
+                "refused 4" => exceeded.insert(field),
+                _ => unknown.insert(field),
+            };
         }
     }
     assert!(Machine::largest(LEVEL).is_none());

@@ -98,8 +98,12 @@ impl Writer {
         }
     }
 
-    /// A set of no field, or of a value that its field does not hold.
+    /// A set of no field, or of a value that its field does not hold, or one that is
+    /// too wide.
     fn refused_set(&mut self) {
+        if self.wide > 0 && self.rng.chance(50) {
+            return self.wide_set();
+        }
         let any = self.rng.next();
         let (field, value) = self.rng.pick(&[
             (0x0D, 0),
@@ -143,7 +147,7 @@ impl Writer {
         for _ in 0..1 + self.rng.below(4) {
             let steps = self.rng.pick(&[5, 20, 63, 64, 65, 80, 120, 160]);
             for _ in 0..steps {
-                if self.bytes.len() + ROOM > LIMIT {
+                if self.counted() + ROOM > LIMIT {
                     break;
                 }
                 self.listed();

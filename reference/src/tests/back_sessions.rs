@@ -48,17 +48,8 @@ impl Replay {
 }
 
 /// The commands of a session before its end.
-fn commands(bytes: &[u8]) -> Vec<Command> {
-    let mut list = Vec::new();
-    let mut at = 0;
-    while let Parsed::Command(command, length) = parse(&bytes[at..]) {
-        if command == Command::End || bytes.len() > LIMIT {
-            break;
-        }
-        list.push(command);
-        at += length;
-    }
-    list
+fn before_the_end(bytes: &[u8]) -> Vec<Command> {
+    commands(bytes).into_iter().filter(|&command| command != Command::End).collect()
 }
 
 /// Random sessions and the directed ones about steps back.
@@ -75,7 +66,7 @@ fn sessions_agree_with_running_again() {
         let mut machine = Machine::default();
         let mut earlier = Earlier::default();
         let mut replay = Replay::default();
-        for command in commands(&bytes) {
+        for command in before_the_end(&bytes) {
             let answer = obey(&mut machine, &mut earlier, command);
             assert_eq!(answer, replay.obey(command), "{}", disassemble(&bytes));
             assert_eq!(machine, replay.now, "{}", disassemble(&bytes));
@@ -90,10 +81,8 @@ fn sessions_agree_with_running_again() {
 #[test]
 fn lines_say_how_many_are_left() {
     for bytes in sessions(46) {
-        let output = run(&bytes);
         let mut left = 0;
-        for (command, line) in commands(&bytes).into_iter().zip(output.lines()) {
-            let answer = line.split_once(' ').expect("position").1;
+        for (command, answer) in answered(&bytes) {
             match command {
                 Command::Back if left == 0 => assert_eq!(answer, "refused 18"),
                 Command::Back => {
@@ -117,7 +106,7 @@ type Taken = (String, &'static str, bool);
 fn taken(bytes: &[u8]) -> (Vec<Taken>, Vec<usize>) {
     let (mut machine, mut earlier) = (Machine::default(), Earlier::default());
     let (mut steps, mut list, mut depths) = (Vec::new(), Vec::new(), Vec::new());
-    for command in commands(bytes) {
+    for command in before_the_end(bytes) {
         let before = machine.clone();
         let listed = earlier.len();
         let answer = obey(&mut machine, &mut earlier, command);

@@ -258,9 +258,7 @@ fn traps(bytes: &[u8]) -> BTreeSet<(&'static str, bool, u8, u8)> {
     let mut machine = Machine::default();
     let mut earlier = Earlier::default();
     let mut list = BTreeSet::new();
-    let mut at = 0;
-    while let Parsed::Command(command, length) = parse(&bytes[at..]) {
-        at += length;
+    for command in commands(bytes) {
         let level = machine.el;
         let answer = obey(&mut machine, &mut earlier, command);
         if let (Command::Access { word, .. }, Answer::Trap { cause, .. }) = (command, answer) {
@@ -273,9 +271,6 @@ fn traps(bytes: &[u8]) -> BTreeSet<(&'static str, bool, u8, u8)> {
             };
             list.insert((name, found.read, level, cause.number()));
         }
-        if command == Command::End {
-            break;
-        }
     }
     list
 }
@@ -286,11 +281,8 @@ fn traps(bytes: &[u8]) -> BTreeSet<(&'static str, bool, u8, u8)> {
 fn generated_sessions_meet_every_cause() {
     let mut seen = BTreeMap::new();
     for index in 0..3000 {
-        let bytes = generate::session(18, index);
-        if bytes.len() <= LIMIT {
-            for trap in traps(&bytes) {
-                *seen.entry(trap).or_insert(0) += 1;
-            }
+        for trap in traps(&generate::session(18, index)) {
+            *seen.entry(trap).or_insert(0) += 1;
         }
     }
     assert_eq!(seen.len(), 10 + 10 + 8 + 12 + 12 + 4 + 4, "{seen:?}");

@@ -256,12 +256,9 @@ fn other_registers_do_not_ask() {
 fn generated_sessions_reach_pmsicr() {
     let mut seen = BTreeMap::new();
     for index in 0..3000 {
-        let bytes = generate::session(26, index);
         let mut machine = Machine::default();
         let mut earlier = Earlier::default();
-        let mut at = 0;
-        while let Parsed::Command(command, length) = parse(&bytes[at..]) {
-            at += length;
+        for command in commands(&generate::session(26, index)) {
             let before = machine.clone();
             let answer = obey(&mut machine, &mut earlier, command);
             if let Command::Access { word, .. } = command {
@@ -270,9 +267,6 @@ fn generated_sessions_reach_pmsicr() {
                     let nv = (before.el2_enabled, before.nv, before.nv2);
                     *seen.entry((word >> 21 & 1, before.el, nv)).or_insert(0) += 1;
                 }
-            }
-            if command == Command::End || bytes.len() > LIMIT {
-                break;
             }
         }
     }

@@ -3,6 +3,7 @@
 //! numbers; the set of the profiling field; what is refused; and that random
 //! sessions sample.
 
+use super::reading::is_run;
 use super::*;
 
 /// A machine that profiles, at level 3, where the register can be read.
@@ -11,22 +12,11 @@ const PROFILING: &str = "01 0A v:1 01 80 v:1 01 83 v:1 02 03 ";
 /// Runs commands after that start: all answers but those of set and level.
 fn lines(text: &str) -> Vec<String> {
     let bytes = assemble(&format!("{PROFILING}{text} 00")).expect("notation");
-    let output = run(&bytes);
-    let mut list = Vec::new();
-    let mut at = 0;
-    for line in output.lines() {
-        let command = match parse(&bytes[at..]) {
-            Parsed::Command(command, length) => {
-                at += length;
-                command
-            }
-            other => panic!("{other:?}"),
-        };
-        if !matches!(command, Command::Set { .. } | Command::Level(_) | Command::End) {
-            list.push(line.split_once(' ').expect("position").1.to_string());
-        }
-    }
-    list
+    let shows = |command: Command| {
+        !matches!(command, Command::Set { .. } | Command::Level(_) | Command::End)
+    };
+    let list = answered(&bytes).into_iter().filter(|(command, _)| shows(*command));
+    list.map(|(_, answer)| answer).collect()
 }
 
 /// One member: ERnd, RND, register, reload, draw; then whether it is selected,
@@ -271,9 +261,7 @@ fn met(bytes: &[u8]) -> Vec<Met> {
     let mut machine = Machine::default();
     let mut earlier = Earlier::default();
     let mut list = Vec::new();
-    let mut at = 0;
-    while let Parsed::Command(command, length) = parse(&bytes[at..]) {
-        at += length;
+    for command in commands(bytes) {
         let r = machine.clone();
         let refused = matches!(obey(&mut machine, &mut earlier, command), Answer::Refused(_));
         if let Command::Member { draw } = command {
@@ -281,9 +269,6 @@ fn met(bytes: &[u8]) -> Vec<Met> {
                 let (secondary, primary) = (r.pmsicr >> 56, r.pmsicr & 0xFFFF_FFFF);
                 list.push((r.ernd, r.rnd, secondary.min(2), primary.min(2), draw == 0));
             }
-        }
-        if command == Command::End {
-            break;
         }
     }
     list
@@ -296,10 +281,10 @@ fn generated_sessions_sample() {
     let mut lines = BTreeMap::new();
     for index in 0..3000 {
         let bytes = generate::session(32, index);
-        if bytes.len() <= LIMIT {
-            for situation in met(&bytes) {
-                *seen.entry(situation).or_insert(0) += 1;
-            }
+        for situation in met(&bytes) {
+            *seen.entry(situation).or_insert(0) += 1;
+        }
+        if is_run(&bytes) {
             let found = run(&bytes).contains(" sampled\n");
             *lines.entry(found).or_insert(0) += 1;
         }
@@ -315,21 +300,15 @@ fn generated_sessions_sample() {
 fn generated_sessions_start_profiling() {
     let mut seen = BTreeMap::new();
     for index in 0..3000 {
-        let bytes = generate::session(34, index);
         let mut machine = Machine::default();
         let mut earlier = Earlier::default();
-        let mut at = 0;
-        while let Parsed::Command(command, length) = parse(&bytes[at..]) {
-            at += length;
+        for command in commands(&generate::session(34, index)) {
             let r = machine.clone();
             obey(&mut machine, &mut earlier, command);
             if let Command::Set { field: 0x83, value: 1 } = command {
                 let parts = [r.pmsicr >> 56, r.pmsicr >> 32 & 0xFF_FFFF, r.pmsicr & 0xFFFF_FFFF];
                 let ones = parts.map(|part| part != 0);
                 *seen.entry((r.profiling, r.spe, r.ernd, ones)).or_insert(0) += 1;
-            }
-            if command == Command::End || bytes.len() > LIMIT {
-                break;
             }
         }
     }
