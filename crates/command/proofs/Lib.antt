@@ -3,4 +3,5 @@ pub mod Front
 pub mod Operands
 pub mod Sizes
 pub mod Fuel
+pub mod Place
 pub mod Width

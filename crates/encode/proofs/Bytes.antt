@@ -54,7 +54,7 @@ laid-length l =
     )
 
 -- a value has 8 bytes or fewer
-few-value-bytes : (f : Form) (v : ℕ) → valueBytes f v ≤ 8
+pub few-value-bytes : (f : Form) (v : ℕ) → valueBytes f v ≤ 8
 few-value-bytes Form.Long v = omega arith
 few-value-bytes Form.Short v = search (either (λ n. n ≤ 8), leb-true) depth 4
 

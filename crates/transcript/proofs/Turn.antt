@@ -4,11 +4,11 @@ use mathlib.Core.Bool.{Bool, true, false}
 use mathlib.Core.List.{List}
 use mathlib.Core.Path.{_≡_, sym, _∙_, ap, subst}
 use native.Mathlib.Omega.{arith}
-use lib.ListN.{length, take, drop, length-drop}
-use lib.Seq.{take-all}
+use lib.ListN.{length, take, drop}
 use Rattle.command.specs.declared.Command.{Command}
 use Rattle.command.specs.declared.Form.{Form}
 use Rattle.command.specs.Command.{commandOf, sizeAt, isLast}
+use Rattle.command.proofs.Place.{part-all}
 use Rattle.command.proofs.Sizes.{size-bounds}
 use Rattle.line.specs.Line.{lineOf}
 use Rattle.execute.specs.Execute.{obey}
@@ -17,10 +17,6 @@ use Rattle.text.specs.Written.{Written}
 use Rattle.transcript.specs.Session.{linesFrom, answersIn}
 use Rattle.transcript.proofs.Room.{line-fits}
 use Rattle.transcript.proofs.Running.{commandAt, outcomeAt, lineAt, Running, running-end, running-on}
-
--- the rest of the input, as a part of it
-pub part-all : (s : List ℕ) (at : ℕ) → take (length s - at) (drop at s) ≡ drop at s
-part-all s at = take-all (length s - at) (drop at s) (simp length-drop (omega arith))
 
 -- what the turn finds at the front of the rest: the command c, its size n, and whether it is the last
 module _

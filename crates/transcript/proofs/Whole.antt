@@ -7,7 +7,7 @@ use native.Mathlib.Nat.{zero-add}
 use native.Mathlib.Omega.{arith}
 use borrow.Author.Tests.{lt-ltb, le-ltb}
 use lib.Dec.{ltb}
-use lib.ListN.{length, take, drop, length-append, length-drop}
+use lib.ListN.{length, take, drop, length-append}
 use lib.Seq.{sets-eq}
 use Rattle.answer.specs.declared.Answer.{Answer}
 use Rattle.answer.specs.declared.Refusal.the-variants.{SessionTooLong}
@@ -16,30 +16,23 @@ use Rattle.command.specs.Form.{headOf, formOf, bodyOf, longest}
 use Rattle.line.specs.Line.{lineOf}
 use Rattle.text.specs.Written.{Written}
 use Rattle.transcript.specs.declared.Output.{Output}
-use Rattle.transcript.proofs.Turn.{part-all}
+use Rattle.command.proofs.Place.{body-length, body-here}
 use Rattle.transcript.specs.Session.{room, answersIn, linesFrom, outputOf, resultOf, bufferOf}
 
 module _ (s : List ℕ) where
-  -- the commands begin at a place of the session, and are the rest of it
-  body-length : {at : ℕ} → at ≡ length (headOf (formOf s)) → length (bodyOf s) ≡ length s - at
-  body-length e = length-drop _ s ∙ ap (λ n. length s - n) (sym e)
-
-  body-here : {at : ℕ} → at ≡ length (headOf (formOf s)) → take (length s - at) (drop at s) ≡ bodyOf s
-  body-here {at} e = part-all s at ∙ ap (λ n. drop n s) e
-
   pub output-long :
       {at : ℕ} → at ≡ length (headOf (formOf s)) → longest < length s - at
       → lineOf 0 (Answer.Refused SessionTooLong) ≡ outputOf s
   unfolding outputOf
-  output-long e h = sym (rw (lt-ltb longest (length (bodyOf s)) (omega (arith, body-length e))))
+  output-long e h = sym (rw (lt-ltb longest (length (bodyOf s)) (omega (arith, body-length s e))))
 
   pub output-run :
       {f : Form} {at : ℕ} → f ≡ formOf s → at ≡ length (headOf (formOf s)) → length s - at ≤ longest
       → linesFrom 1 (answersIn f (take (length s - at) (drop at s))) ≡ outputOf s
   unfolding outputOf
   output-run g e h =
-      (λ i. linesFrom 1 (answersIn (g i) (body-here e i)))
-      ∙ sym (rw (le-ltb longest (length (bodyOf s)) (omega (arith, body-length e))))
+      (λ i. linesFrom 1 (answersIn (g i) (body-here s e i)))
+      ∙ sym (rw (le-ltb longest (length (bodyOf s)) (omega (arith, body-length s e))))
 
 module _ (s out : List ℕ) where
   pub too-short : length out < room → (Output.Short ≡ resultOf s out) × (out ≡ bufferOf s out)

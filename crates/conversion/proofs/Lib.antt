@@ -1,0 +1,6 @@
+-- The laws of the crate `conversion`.
+pub mod Measuring
+pub mod Writing
+pub mod Shorter
+pub mod Whole
+pub mod Worked

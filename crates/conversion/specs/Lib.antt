@@ -1,0 +1,4 @@
+-- The definitions of the crate `conversion`.
+pub mod Conversion
+pub mod Call
+pub mod Example
