@@ -1,0 +1,2 @@
+-- The claims of the crate `forms`.
+pub mod Claims
