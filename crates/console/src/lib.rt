@@ -4,7 +4,7 @@ ghost use Rattle.console.specs.Input.{Fits};
 use transcript::Output;
 
 // What came of reading an input: so many bytes, at the buffer's front, or a read that failed.
-enum Input {
+pub enum Input {
     Bytes(usize),
     Failed,
 }
@@ -21,7 +21,7 @@ fn read_once(fd: i32, buffer: &mut [u8]) -> Input
 }
 
 // Reads until the buffer is full or the input ends, unless a read fails.
-fn read(fd: i32, buffer: &mut [u8]) -> Input
+pub fn read(fd: i32, buffer: &mut [u8]) -> Input
     ensures { λ r. ⌜ Fits r (now (buffer .exit)) ⌝ }
 {
     let mut at: usize = 0;

@@ -77,7 +77,13 @@ module _
       let last = commands-last f (drop at s) (ap isLast (sym here) ∙ e) ∙ ap (λ (d : Command). d ∷ []) (sym here) in
       let bad : badIn (commandsIn f s) ≡ [] = m .bad ∙ ap badIn last ∙ ap (λ (l : List Refusal). l ++ []) k in
       let bytes : total + n ≡ length (bytesIn g (commandsIn f s)) =
-      omega (arith, m .bytes, size, ap (λ (cs : List Command). length (bytesIn g cs)) last, ap length (append-nil (bytesOf g c))) in
+      omega (
+        arith,
+        m .bytes,
+        size,
+        ap (λ (cs : List Command). length (bytesIn g cs)) last,
+        ap length (append-nil (bytesOf g c)),
+      ) in
       sym (λ i. firstOrBytes (bad i) (sym bytes i))
 
   -- and on behind it

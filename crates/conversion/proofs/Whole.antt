@@ -6,6 +6,7 @@ use mathlib.Core.Path.{_≡_, refl, sym, _∙_, ap, subst}
 use native.Mathlib.Nat.{zero-add}
 use native.Mathlib.Omega.{arith}
 use borrow.Author.Tests.{lt-ltb, le-ltb, ltb-false}
+use lib.Dec.{ltb}
 use lib.ListN.{length, take, drop, length-append}
 use lib.Seq.{sets-eq}
 use Rattle.answer.specs.declared.Refusal.{Refusal}
@@ -116,7 +117,8 @@ gives-session g cs {out = out} e fits p q =
     )
 
 -- refused, and the buffer left alone
-pub gives-refusal : {c : Conversion} {r : Refusal} (out : List ℕ) → Conversion.Refused r ≡ c → Gives c (Converted.Refused r) out out
+pub gives-refusal :
+    {c : Conversion} {r : Refusal} (out : List ℕ) → Conversion.Refused r ≡ c → Gives c (Converted.Refused r) out out
 gives-refusal out e = (ap answerOf e, ap (λ (d : Conversion). heldOf d out) e)
 
 -- what the same conversion gives, said otherwise
@@ -144,6 +146,23 @@ module _ (s : List ℕ) where
     pub too-short : length out < room → (Converted.NoRoom ≡ resultOf s out) × (out ≡ bufferOf s out)
     unfolding resultOf bufferOf
     too-short h = (sym (rw (lt-ltb (length out) room h)), sym (rw (lt-ltb (length out) room h)))
+
+    -- the bytes that are said to hold a session are bytes of the buffer
+    pub bytes-fit :
+        {out′ : List ℕ} {k : ℕ} → Converted.Bytes k ≡ resultOf s out → out′ ≡ bufferOf s out → k ≤ length out′
+    unfolding resultOf bufferOf
+    bytes-fit {out′} {k} r b = go (ltb (length out) room) (conversionOf s) r b
+      where
+        go :
+            (c : Bool) (d : Conversion)
+            → Converted.Bytes k ≡ cond c Converted.NoRoom (answerOf d)
+            → out′ ≡ cond c out (heldOf d out)
+            → k ≤ length out′
+        go true d r b = let z : _≡_ {A = ℕ} 0 1 = cc in let n : ⊥ = omega arith in absurd n
+        go false (Conversion.Refused x) r b = let z : _≡_ {A = ℕ} 0 1 = cc in let n : ⊥ = omega arith in absurd n
+        go false (Conversion.Session t) r b =
+            let e : k ≡ length t = cc in
+            omega (arith, ap length b, length-append t (drop (length t) out))
 
     pub enough :
         {answer : Converted} {out′ : List ℕ} → room ≤ length out → Gives (conversionOf s) answer out out′

@@ -1,4 +1,4 @@
--- Lists of commands: those that were read are written as they were read, and those that were written are read as they were written.
+-- Lists of commands: those that were read are written as they were, and those that were written are read as they were.
 use Prim.Native.Nat.{ℕ, zero, suc, _<_}
 use mathlib.Core.Bool.{Bool, true, false, cond}
 use mathlib.Core.List.{List, [], _∷_, _++_, append-nil, append-assoc}

@@ -10,6 +10,7 @@ use Rattle.command.specs.declared.Command.{Command}
 use Rattle.command.specs.declared.Form.{Form}
 use Rattle.command.specs.Command.{commandsIn, commandsOf}
 use Rattle.command.specs.Form.{headOf, formOf, bodyOf, longest}
+use Rattle.encode.specs.Encode.{bytesOf}
 use Rattle.conversion.specs.Conversion.{otherForm, bytesIn, sessionIn, isTooLong, Conversion, converted, conversionOf}
 use Rattle.execute.specs.Execute.{perform}
 use Rattle.listing.specs.History.{begun}
@@ -24,6 +25,7 @@ use Rattle.forms.specs.Claims.{
   ReadsThrough,
   OneMore,
   NotLonger,
+  NotEmpty,
 }
 use Rattle.forms.proofs.Lists.{Proper, proper, read-back, read-front, proper-end}
 use Rattle.forms.proofs.Numbers.{drop-bytes}
@@ -138,3 +140,22 @@ not-longer-by-more s t o =
     subst (λ (r : List ℕ). OneMore (formOf s) r t) (read-session s t o)
     (subst (λ (u : List ℕ). OneMore (formOf s) (sessionIn (formOf s) (commandsOf s)) u) (sym (how s t o .session))
     (one-more (formOf s) (commandsOf s)))
+
+-- an end command has a byte
+ended : (f : Form) (cs : List Command) → 1 ≤ length (bytesIn f (cs ++ (Command.End ∷ [])))
+unfolding bytesIn bytesOf
+ended f [] = omega arith
+ended f (c ∷ cs) =
+    omega (arith, ended f cs, length-append (bytesOf f c) (bytesIn f (cs ++ (Command.End ∷ []))))
+
+pub not-empty : NotEmpty
+not-empty s t o =
+    let g = otherForm (formOf s) in
+    let end = proper-end (commandsOf s) (all-proper s t o) in
+    omega (
+      arith,
+      ap length (how s t o .session),
+      length-append (headOf g) (bytesIn g (commandsOf s)),
+      ap (λ (cs : List Command). length (bytesIn g cs)) (end .1),
+      ended g (end .0),
+    )

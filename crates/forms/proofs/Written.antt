@@ -128,7 +128,10 @@ value-operands Form.Long v = refl
 value-operands Form.Short v =
     either-size (ltb v (256 ^ 1)) 1 (cond (ltb v (256 ^ 4)) 4 8) refl (either-size (ltb v (256 ^ 4)) 4 8 refl refl)
 
-set-size : (k a v : ℕ) (rest : List ℕ) → operandBytes (setByte k) ≡ 1 + k → sizeAt (setByte k ∷ ((littleBytes 1 a ++ littleBytes k v) ++ rest)) ≡ length (setByte k ∷ (littleBytes 1 a ++ littleBytes k v))
+set-size :
+    (k a v : ℕ) (rest : List ℕ) → operandBytes (setByte k) ≡ 1 + k
+    → sizeAt (setByte k ∷ ((littleBytes 1 a ++ littleBytes k v) ++ rest))
+    ≡ length (setByte k ∷ (littleBytes 1 a ++ littleBytes k v))
 set-size k a v rest e = omega (arith, e, length-little-bytes k v)
 
 -- and it takes the bytes that were written

@@ -52,3 +52,7 @@ OneMore Form.Short short long = length short ≤ 1 + length long
 -- MODEL Z8: so it is of a session, up to and including its end command, and its other form
 abbrev pub NotLonger : Type 0
 NotLonger = (s t : List ℕ) → OtherForm s t → OneMore (formOf s) (readOf s) t
+
+-- MODEL X11 and X12: no converted session is empty
+abbrev pub NotEmpty : Type 0
+NotEmpty = (s t : List ℕ) → OtherForm s t → 1 ≤ length t

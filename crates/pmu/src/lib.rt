@@ -1,5 +1,7 @@
-// The session function for programs in C and Rust: the static library's exports, on numbers and byte slices. bindings/pmu.h
-// declares them. They ask nothing of the bytes that they are given.
+// The session function and the conversion for programs in C and Rust: the static library's exports, on numbers and byte slices.
+// bindings/pmu.h declares them. They ask nothing of the bytes that they are given.
+pub mod other; // other.rt: the conversion
+
 ghost use mathlib.Core.Path.{_≡_};
 ghost use Rattle.transcript.specs.Session.{room, resultOf, bufferOf};
 ghost use Rattle.pmu.specs.Exports.{sizeOf};

@@ -13,9 +13,10 @@ use command::Form;
 // The bytes that any session's output fits into: `room` of specs/Session.antt.
 pub const ROOM: usize = 65600;
 
-// Writes the lines of the commands in bytes of a form, not too many, from the fresh record on. The record is a local, and its
-// counters are one of their own: an access has them lent, and every other command takes and returns the whole record by value.
-// The table of registers is made once, and lent for each word; the words of the undo list are lent to each command.
+// Writes the lines of the commands in bytes of a form, not too many, from the fresh record on. The record is a local,
+// and its counters are one of their own: an access has them lent, and every other command takes and returns the whole
+// record by value. The table of registers is made once, and lent for each word; the words of the undo list are lent to each
+// command.
 fn write_lines(f: Form, input: &[u8], out: &mut [u8]) -> usize
     requires { ⌜ (length (now input) ≤ longest) × (room ≤ length (now out)) ⌝ }
     ensures { λ end. ⌜ Written (now (out .entry)) 0 (linesFrom 1 (answersIn f (now (input .entry)))) (now (out .exit)) end

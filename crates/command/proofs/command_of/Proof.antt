@@ -31,7 +31,9 @@ returns-4 c =
     let at-is-unknown = at-if2 .before in
     let at-start = at-is-unknown .before .before .before .before in
     let known = sym (at-is-unknown .is-unknown .ensures) ∙ at-if2 .if2 .left in
-    c .command-with .ensures ∙ sym (front-whole _ (at-start .args .t .now) (omega arith) known (omega (arith, at-operand-bytes .operand-bytes .ensures)))
+    c .command-with .ensures
+    ∙ sym
+    (front-whole _ (at-start .args .t .now) (omega arith) known (omega (arith, at-operand-bytes .operand-bytes .ensures)))
 
 pub command-of-spec : {M : Type 1} → statement M
 command-of-spec =

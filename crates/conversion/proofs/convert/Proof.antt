@@ -17,7 +17,8 @@ returns-2 c =
     let at-if1 = c .before .before .before in
     let at-start = at-if1 .before .before .before in
     let long = session-long (at-start .args .input .now) (c .before .body-start .ensures .0) (omega (arith, c .if2 .taken)) in
-    enough (at-start .args .input .now) (at-start .args .out .now) (omega (arith, at-if1 .if1 .left)) (gives-refusal (at-start .args .out .now) long)
+    enough (at-start .args .input .now) (at-start .args .out .now) (omega (arith, at-if1 .if1 .left))
+    (gives-refusal (at-start .args .out .now) long)
 
 returns-3 : tie.Need-returns-3
 returns-3 c =
@@ -27,9 +28,12 @@ returns-3 c =
     let at-form-of = at-body-start .before in
     let at-if1 = at-form-of .before in
     let at-start = at-if1 .before .before .before in
-    let run = session-run (at-start .args .input .now) (at-form-of .form-of .ensures) (at-body-start .body-start .ensures .0) (omega (arith, at-if2 .if2 .left)) in
+    let run =
+    session-run (at-start .args .input .now) (at-form-of .form-of .ensures) (at-body-start .body-start .ensures .0)
+    (omega (arith, at-if2 .if2 .left)) in
     enough (at-start .args .input .now) (at-start .args .out .now) (omega (arith, at-if1 .if1 .left))
-    (gives-on (at-start .args .out .now) run (at-convert-body .convert-body .ensures .0) (at-convert-body .convert-body .ensures .1))
+    (gives-on (at-start .args .out .now) run (at-convert-body .convert-body .ensures .0)
+    (at-convert-body .convert-body .ensures .1))
 
 pub convert-spec : {M : Type 1} → statement M
 convert-spec =

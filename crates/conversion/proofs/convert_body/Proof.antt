@@ -70,9 +70,11 @@ returns-3 c =
     let measured = sym (at-n .n .given .1) ∙ at-measure .measure .ensures in
     let short = sym (at-is-too-long .is-too-long .ensures) ∙ at-if1 .if1 .left in
     let fits =
-    body-fits (at-start .args .f) (at-start .args .body .now) (at-other-form .other-form .ensures) (measured-length g cs measured) short (at-start .pre .0) in
+    body-fits (at-start .args .f) (at-start .args .body .now) (at-other-form .other-form .ensures)
+    (measured-length g cs measured) short (at-start .pre .0) in
     let session = measured-session g cs measured short ∙ ap (λ h. converted h cs) (at-other-form .other-form .ensures) in
-    gives-session g cs session (omega (arith, fits, at-start .pre .1)) (at-write-head .write-head .ensures) (at-write-commands .write-commands .ensures)
+    gives-session g cs session (omega (arith, fits, at-start .pre .1)) (at-write-head .write-head .ensures)
+    (at-write-commands .write-commands .ensures)
 
 pub convert-body-spec : {M : Type 1} → statement M
 convert-body-spec =

@@ -45,7 +45,9 @@ returns-2 c =
     let at-match = at-size .before in
     let at-command-of = at-match .before in
     let at-loop = at-command-of .before .before in
-    measured-end (at-loop .loop .inv) (at-command-of .command-of .ensures) (not-bad (at-command-of .command-of .result) (at-match .match .keys2)) (at-size .size .ensures .0) (sym (c .before .is-last .ensures) ∙ c .if1 .taken)
+    measured-end (at-loop .loop .inv) (at-command-of .command-of .ensures)
+    (not-bad (at-command-of .command-of .result) (at-match .match .keys2)) (at-size .size .ensures .0)
+    (sym (c .before .is-last .ensures) ∙ c .if1 .taken)
 
 sub-size-at : tie.Need-sub-size-at Inv-loop μ-loop
 sub-size-at c =
@@ -70,7 +72,9 @@ loop-again c =
     let at-match = at-size .before in
     let at-command-of = at-match .before in
     let at-loop = at-command-of .before .before in
-    measuring-on (at-loop .loop .inv) (at-command-of .command-of .ensures) (not-bad (at-command-of .command-of .result) (at-match .match .keys2)) (at-size .size .ensures .0) (at-size .size .ensures .1) (c .size-at .ensures) (sym (at-is-last .is-last .ensures) ∙ at-if1 .if1 .left)
+    measuring-on (at-loop .loop .inv) (at-command-of .command-of .ensures)
+    (not-bad (at-command-of .command-of .result) (at-match .match .keys2)) (at-size .size .ensures .0)
+    (at-size .size .ensures .1) (c .size-at .ensures) (sym (at-is-last .is-last .ensures) ∙ at-if1 .if1 .left)
 
 add-at : tie.Need-add-at Inv-loop μ-loop
 add-at c = omega (arith, loop-again c .within)
@@ -83,7 +87,8 @@ loop-less c =
     let at-loop = at-command-of .before .before in
     let at-start = at-loop .before .before in
     let some =
-    size-some-here (at-start .args .f) (at-start .args .body .now) (at-loop .loop .at) (at-command-of .command-of .ensures) (c .size-at .ensures)
+    size-some-here (at-start .args .f) (at-start .args .body .now) (at-loop .loop .at) (at-command-of .command-of .ensures)
+    (c .size-at .ensures)
     (sym (at-is-last .is-last .ensures) ∙ at-if1 .if1 .left) in
     omega (arith, loop-again c .within, some)
 

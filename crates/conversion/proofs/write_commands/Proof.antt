@@ -43,7 +43,8 @@ returns c =
     let at-write = c .before .before .before .before in
     let at-command-of = at-write .before .before in
     let at-loop = at-command-of .before .before in
-    writing-end (at-loop .loop .inv) (at-command-of .command-of .ensures) (at-write .write .ensures) (sym (c .before .is-last .ensures) ∙ c .if1 .taken)
+    writing-end (at-loop .loop .inv) (at-command-of .command-of .ensures) (at-write .write .ensures)
+    (sym (c .before .is-last .ensures) ∙ c .if1 .taken)
 
 sub-size-at : tie.Need-sub-size-at Inv-loop μ-loop
 sub-size-at c =
@@ -67,7 +68,8 @@ loop-again c =
     let at-write = at-is-last .before .before .before in
     let at-command-of = at-write .before .before in
     let at-loop = at-command-of .before .before in
-    writing-on (at-loop .loop .inv) (at-command-of .command-of .ensures) (at-write .write .ensures) (c .size-at .ensures) (sym (at-is-last .is-last .ensures) ∙ at-if1 .if1 .left)
+    writing-on (at-loop .loop .inv) (at-command-of .command-of .ensures) (at-write .write .ensures) (c .size-at .ensures)
+    (sym (at-is-last .is-last .ensures) ∙ at-if1 .if1 .left)
 
 add-at : tie.Need-add-at Inv-loop μ-loop
 add-at c = omega (arith, loop-again c .within)
@@ -80,7 +82,8 @@ loop-less c =
     let at-loop = at-command-of .before .before in
     let at-start = at-loop .before .before .before in
     let some =
-    size-some-here (at-start .args .f) (at-start .args .body .now) (at-loop .loop .at) (at-command-of .command-of .ensures) (c .size-at .ensures)
+    size-some-here (at-start .args .f) (at-start .args .body .now) (at-loop .loop .at) (at-command-of .command-of .ensures)
+    (c .size-at .ensures)
     (sym (at-is-last .is-last .ensures) ∙ at-if1 .if1 .left) in
     omega (arith, loop-again c .within, some)
 

@@ -19,7 +19,8 @@ returns-2 c =
     let at-c = c .before .before .before .before in
     let f = at-start .args .f in
     c .with-operands2 .ensures
-    ∙ set-laid f (at-c .c .given .0 .0) (at-c .c .given .0 .1 .0) (at-value-bytes .value-bytes .ensures) (c .before .set-byte .ensures)
+    ∙ set-laid f (at-c .c .given .0 .0) (at-c .c .given .0 .1 .0) (at-value-bytes .value-bytes .ensures)
+    (c .before .set-byte .ensures)
     ∙ sym (ap (bytesOf f) (at-c .c .given .1))
 
 returns-3 : tie.Need-returns-3

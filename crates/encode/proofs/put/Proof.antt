@@ -26,7 +26,9 @@ loop-again c =
     let at-loop = c .before in (
       omega arith,
       simp length-set (at-loop .loop .inv .1),
-      at-loop .loop .inv .2 ∙ bytes-turn (at-loop .loop .out) (at-loop .loop .next) (at-loop .loop .left) (at-loop .loop .rest) (c .loop-test .taken) refl,
+      at-loop .loop .inv .2
+          ∙ bytes-turn (at-loop .loop .out) (at-loop .loop .next) (at-loop .loop .left) (at-loop .loop .rest)
+          (c .loop-test .taken) refl,
     )
 
 same-length : tie.Need-same-length Inv-loop μ-loop
@@ -36,7 +38,9 @@ returns : tie.Need-returns Inv-loop μ-loop
 returns c =
     let at-loop = c .before in
     let at-start = at-loop .before in
-    let done = bytes-done (at-loop .loop .out) (at-loop .loop .next) (at-loop .loop .left) (at-loop .loop .rest) (omega (arith, c .loop-test .left)) in
+    let done =
+    bytes-done (at-loop .loop .out) (at-loop .loop .next) (at-loop .loop .left) (at-loop .loop .rest)
+    (omega (arith, c .loop-test .left)) in
     record {
       stored = sym (at-loop .loop .inv .2 ∙ done);
       behind = omega (arith, c .loop-test .left, length-little-bytes (at-start .args .k) (at-start .args .n));

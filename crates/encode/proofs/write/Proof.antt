@@ -34,7 +34,17 @@ put-requires-3 c κs =
     let whole = sym (laid-length l) ∙ ap length (at-layout-of .layout-of .ensures) in
     let own = length-little-bytes (l .command .bytes) (l .command .number) in
     let first = length-little-bytes (l .first .bytes) (l .first .number) in
-    omega (arith, whole, own, first, at-start .pre, at-put .put .ensures .behind, at-put .put .kept .0, at-put2 .put2 .ensures .behind, at-put2 .put2 .kept .0)
+    omega (
+      arith,
+      whole,
+      own,
+      first,
+      at-start .pre,
+      at-put .put .ensures .behind,
+      at-put .put .kept .0,
+      at-put2 .put2 .ensures .behind,
+      at-put2 .put2 .kept .0,
+    )
 
 returns : tie.Need-returns
 returns c =
@@ -42,7 +52,8 @@ returns c =
     let at-put2 = at-put3 .before .before .before .before in
     let at-put = at-put2 .before .before .before .before in
     let at-layout-of = at-put .before .before in
-    laid-written (at-layout-of .layout-of .result) (at-layout-of .layout-of .ensures) (at-put .put .ensures) (at-put2 .put2 .ensures) (at-put3 .put3 .ensures)
+    laid-written (at-layout-of .layout-of .result) (at-layout-of .layout-of .ensures) (at-put .put .ensures)
+    (at-put2 .put2 .ensures) (at-put3 .put3 .ensures)
 
 pub write-spec : {M : Type 1} → statement M
 write-spec =

@@ -18,8 +18,10 @@ returns-2 c =
     let at-body-start = at-if2 .before in
     let at-if1 = at-body-start .before .before in
     let at-start = at-if1 .before .before .before in
-    let long = output-long (at-start .args .input .now) (at-body-start .body-start .ensures .0) (omega (arith, at-if2 .if2 .taken)) in
-    enough (at-start .args .input .now) (at-start .args .out .now) (omega (arith, at-if1 .if1 .left)) (at-line .line .ensures .0) long
+    let long =
+    output-long (at-start .args .input .now) (at-body-start .body-start .ensures .0) (omega (arith, at-if2 .if2 .taken)) in
+    enough (at-start .args .input .now) (at-start .args .out .now) (omega (arith, at-if1 .if1 .left))
+    (at-line .line .ensures .0) long
     (omega (arith, at-line .line .ensures .1, at-if1 .if1 .left))
 
 returns-3 : tie.Need-returns-3
@@ -31,8 +33,10 @@ returns-3 c =
     let at-if1 = at-form-of .before in
     let at-start = at-if1 .before .before .before in
     let whole =
-    output-run (at-start .args .input .now) (at-form-of .form-of .ensures) (at-body-start .body-start .ensures .0) (omega (arith, at-if2 .if2 .left)) in
-    enough (at-start .args .input .now) (at-start .args .out .now) (omega (arith, at-if1 .if1 .left)) (at-write-lines .write-lines .ensures .0) whole
+    output-run (at-start .args .input .now) (at-form-of .form-of .ensures) (at-body-start .body-start .ensures .0)
+    (omega (arith, at-if2 .if2 .left)) in
+    enough (at-start .args .input .now) (at-start .args .out .now) (omega (arith, at-if1 .if1 .left))
+    (at-write-lines .write-lines .ensures .0) whole
     (at-write-lines .write-lines .ensures .1)
 
 pub session-spec : {M : Type 1} → statement M
