@@ -1,14 +1,19 @@
-/* A session from standard input, its lines to standard output, through the static library; before that, the tests of pmu_run. */
+/* A session from standard input, its lines to standard output, through the static library; before that, the tests of pmu_run
+ * and pmu_run_convert. */
 #include <stdio.h>
 #include <string.h>
 
 #include "../pmu.h"
 
-static uint8_t input[PMU_LONGEST + 1];
+static uint8_t input[PMU_INPUT];
 
 /* Room for an output, with one byte on either side of it. */
 static uint8_t bytes[1 + PMU_ROOM + 1];
 static uint8_t *const out = bytes + 1;
+
+/* A short session with a set that is as narrow as it can be and one that is not, and no bytes. */
+static const uint8_t wide[11] = {0x10, 0x11, 0x00, 0x01, 0x12, 0x0C, 0xFF, 0x00, 0x00, 0x00, 0x00};
+static const uint8_t nothing[1] = {0};
 
 /* What pmu_run must not run, and writes nothing for: the number of the first that it does run, or 0. */
 static int wrongly_run(void)
@@ -53,16 +58,53 @@ static int wrongly_refused(void)
         return 4;
     if (!gives(back, sizeof back, "1 ok\n2 ok\n3 refused 18\n4 end\n"))
         return 5;
+    if (!gives(wide, sizeof wide, "1 ok\n2 refused 19\n3 end\n"))
+        return 6;
+    return 0;
+}
+
+/* The conversion says these numbers, and leaves these bytes at the front of the buffer, one byte more as it was. */
+static int turns(const uint8_t *session, size_t length, size_t n, size_t refusal, const uint8_t *other)
+{
+    pmu_conversion said;
+
+    memset(out, 0xAA, PMU_CONVERT_ROOM);
+    said = pmu_run_convert(session, length, out, PMU_CONVERT_ROOM);
+    return said.bytes == n && said.refusal == refusal && memcmp(out, other, n) == 0 && (n == PMU_CONVERT_ROOM || out[n] == 0xAA);
+}
+
+/* What pmu_run_convert must convert and must refuse: the number of the first that is not so, or 0. */
+static int wrongly_converted(void)
+{
+    const uint8_t set[11] = {0x01, 0x00, 0x01, 0, 0, 0, 0, 0, 0, 0, 0x00}, short_set[5] = {0x10, 0x11, 0x00, 0x01, 0x00};
+    pmu_conversion said = pmu_run_convert(set, sizeof set, out, PMU_CONVERT_ROOM - 1);
+
+    if (pmu_convert_room() != PMU_CONVERT_ROOM || said.bytes != 0 || said.refusal != 0)
+        return 1;
+    said = pmu_run_convert(out, 1, out, PMU_CONVERT_ROOM);
+    if (said.bytes != 0 || said.refusal != 0)
+        return 2;
+    if (!turns(set, sizeof set, sizeof short_set, 0, short_set) || !turns(short_set, sizeof short_set, sizeof set, 0, set))
+        return 3;
+    if (!turns(NULL, 0, 0, 2, nothing) || !turns(wide, sizeof wide, 0, 19, nothing))
+        return 4;
+    memset(input, 0x00, sizeof input);
+    if (!turns(input, PMU_LONGEST + 1, 0, 6, nothing))
+        return 5;
+    input[0] = 0x10;
+    if (!turns(input, PMU_INPUT, 0, 6, nothing) || !turns(input, PMU_LONGEST + 1, 1, 0, short_set + 4))
+        return 6;
+    input[0] = 0x00;
     return 0;
 }
 
 int main(void)
 {
-    int run = wrongly_run(), refused = wrongly_refused();
+    int run = wrongly_run(), refused = wrongly_refused(), converted = wrongly_converted();
     size_t n;
 
-    if (run != 0 || refused != 0) {
-        fprintf(stderr, "pmu_run: wrongly run %d, wrongly refused %d\n", run, refused);
+    if (run != 0 || refused != 0 || converted != 0) {
+        fprintf(stderr, "wrongly run %d, wrongly refused %d, wrongly converted %d\n", run, refused, converted);
         return 1;
     }
     n = fread(input, 1, sizeof input, stdin);
