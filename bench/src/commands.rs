@@ -2,9 +2,10 @@
 //! library and by the reference: one row for each kind of command, from the
 //! same settings. A step back is counted as a pair, less the command that it
 //! takes back; so the list is short there, and full where that command is
-//! counted alone.
+//! counted alone. Some rows are of the short form, which has sets of its own.
 
 use crate::counted;
+use reference::form::{Form, SHORT_FORM};
 use reference::session;
 use std::hint::black_box;
 
@@ -15,6 +16,8 @@ const COMMANDS: usize = 100;
 /// The bytes of one kind of command.
 struct Kind {
     name: &'static str,
+    /// The form of the session that has the command.
+    form: Form,
     bytes: Vec<u8>,
     /// The row whose command is part of this one's, and is taken off.
     less: Option<&'static str>,
@@ -56,10 +59,11 @@ fn access(word: u32, operand: u64) -> Vec<u8> {
 
 /// All at level 1. Counter 2 is below HPMN and counter 5 is not; PMSWINC is of five counters.
 fn rows() -> Vec<Kind> {
-    let one = |name, bytes| Kind { name, bytes, less: None };
+    let one = |name, bytes| Kind { name, form: Form::Long, bytes, less: None };
+    let short = |name, bytes| Kind { name, form: Form::Short, bytes, less: None };
     let back = |name, mut bytes: Vec<u8>, less| {
         bytes.push(0x07);
-        Kind { name, bytes, less: Some(less) }
+        Kind { name, form: Form::Long, bytes, less: Some(less) }
     };
     let write = [&[0x05, 0x00, 0x0C][..], &0x3Fu64.to_le_bytes()].concat();
     vec![
@@ -79,12 +83,18 @@ fn rows() -> Vec<Kind> {
         back("level back", vec![0x02, 0x01], "level"),
         back("write back", access(0xD51B_E842, 9), "counter write"),
         back("PMSWINC back", access(0xD51B_9C81, 0x1F), "PMSWINC"),
+        short("set, 1 byte", Form::Short.set(0x62, 9)),
+        short("set, 4 bytes", Form::Short.set(0x62, 0x900)),
+        short("set, 8 bytes", Form::Short.set(0x62, 9 << 32)),
+        short("set, too wide", set(0x62, 9)),
+        short("read, short", access(0xD53B_E842, 0)),
     ]
 }
 
 /// A session with so many of one kind of command, at level 1.
 fn whole(kind: &Kind, count: usize) -> Vec<u8> {
-    let mut bytes: Vec<u8> = SETS.iter().flat_map(|&(field, value)| set(field, value)).collect();
+    let mut bytes = if kind.form == Form::Short { vec![SHORT_FORM] } else { Vec::new() };
+    bytes.extend(SETS.iter().flat_map(|&(field, value)| kind.form.set(field, value)));
     bytes.extend([0x02, 0x01]);
     bytes.extend(kind.bytes.repeat(count));
     bytes.push(0x00);

@@ -6,6 +6,7 @@
 
 mod access;
 mod commands;
+mod conversions;
 mod counted;
 mod loops;
 mod memory;
@@ -14,16 +15,19 @@ mod sessions;
 
 use std::process::ExitCode;
 
-/// The rows of accesses, then those of registers and of commands, in the order of `count`.
+/// The rows of accesses, then those of registers, of commands and of conversions, in the order of `count`.
 fn report(totals: &[u64]) -> Result<(), String> {
-    if totals.len() != access::counts() + register::counts() + commands::counts() {
+    let counts = [access::counts(), register::counts(), commands::counts(), conversions::counts()];
+    if totals.len() != counts.iter().sum::<usize>() {
         return Err(format!("{} counts are not two for each row and loop", totals.len()));
     }
     let (accesses, rest) = totals.split_at(access::counts());
-    let (registers, commands) = rest.split_at(register::counts());
+    let (registers, rest) = rest.split_at(register::counts());
+    let (commands, conversions) = rest.split_at(commands::counts());
     access::report(accesses)?;
     register::report(registers)?;
     commands::report(commands)?;
+    conversions::report(conversions);
     sessions::report();
     Ok(())
 }
@@ -35,6 +39,7 @@ fn main() -> ExitCode {
             access::count();
             register::count();
             commands::count();
+            conversions::count();
             Ok(())
         }
         Some("report") => {
