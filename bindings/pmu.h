@@ -45,7 +45,7 @@ typedef struct {
 
 size_t pmu_convert_room(void);
 
-/* Writes the other form of the session in `input` to the front of `out`, up to and including its end command (section Z of
+/* Writes the other form of the session in `input` to the front of `out`, through its end command (section Z of
  * docs/MODEL.md): the short form of a long one, the long form of a short one. Where it is refused, by 6, 1, 2, 19 or 20, or `out`
  * has fewer than PMU_CONVERT_ROOM bytes, `out` is left alone. Neither pointer is null, even where its length is 0; the two do not
  * overlap. */

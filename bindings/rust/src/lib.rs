@@ -57,7 +57,7 @@ pub enum NotConverted {
     Refused(u8),
 }
 
-/// The other form of a session, up to and including its end command: the short
+/// The other form of a session, through its end command: the short
 /// form of a long one, the long form of a short one. It is the front of the
 /// buffer, and what is returned.
 pub fn convert<'a>(input: &[u8], out: &'a mut [u8]) -> Result<&'a [u8], NotConverted> {

@@ -66,7 +66,7 @@ commandOf f (c ∷ rest) =
     (cond (ltb (length rest) (operandBytes c)) (Command.Bad Truncated)
     (commandWith f c rest))
 
--- MODEL S1: how many bytes the command at the front takes, its own among them
+-- MODEL S1 and Z2: how many bytes the command at the front takes, its own among them
 abbrev pub sizeAt : List ℕ → ℕ
 sizeAt [] = 0
 sizeAt (c ∷ rest) = 1 + operandBytes c

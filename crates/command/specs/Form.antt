@@ -16,7 +16,7 @@ abbrev pub formOf : List ℕ → Form
 formOf [] = Form.Long
 formOf (b ∷ rest) = cond (eqb b 0x10) Form.Short Form.Long
 
--- MODEL Z1: the bytes of a session's commands, which the limit counts
+-- MODEL Z1: the bytes of a session that the limit counts: its commands, and what follows them
 abbrev pub bodyOf : List ℕ → List ℕ
 bodyOf s = drop (length (headOf (formOf s))) s
 

@@ -118,8 +118,8 @@ pub fn command_of(f: Form, t: &[u8]) -> Command
     if forms::is_unknown(f, c) {
         return Command::Bad(Refusal::UnknownCommand);
     }
-    if t.len() - 1 < operand_bytes(c) {
-        return Command::Bad(Refusal::Truncated);
+    if operand_bytes(c) <= t.len() - 1 {
+        return command_with(f, c, t);
     }
-    command_with(f, c, t)
+    Command::Bad(Refusal::Truncated)
 }

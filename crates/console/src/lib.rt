@@ -1,5 +1,5 @@
 // The streams of a program: a session's bytes read, its lines written to standard output, and on standard error what went wrong
-// with either. A program of Rattle has no exit status to say it by.
+// with either. The exit status of a program of Rattle is always 0.
 ghost use Rattle.console.specs.Input.{Fits};
 use transcript::Output;
 

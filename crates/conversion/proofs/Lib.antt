@@ -3,4 +3,5 @@ pub mod Measuring
 pub mod Writing
 pub mod Shorter
 pub mod Whole
+pub mod Given
 pub mod Worked

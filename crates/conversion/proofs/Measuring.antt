@@ -1,8 +1,8 @@
 -- The loop that measures commands: what is measured and what remains is the whole, and none so far was refused.
 use Prim.Native.Nat.{ℕ, _+_, _-_, _*_, _≤_}
-use mathlib.Core.Bool.{Bool, true, false, cond}
+use mathlib.Core.Bool.{true, false}
 use mathlib.Core.List.{List, [], _∷_, _++_, append-nil}
-use mathlib.Core.Path.{_≡_, refl, sym, _∙_, ap, ap₂, subst}
+use mathlib.Core.Path.{_≡_, refl, sym, _∙_, ap}
 use native.Mathlib.Omega.{arith}
 use types.Run.{OneOf, miss}
 use denote.Enum.Declared.{tagOf}
@@ -38,7 +38,7 @@ not-bad (Command.Member d) t = refl
 not-bad (Command.Bad r) t = absurd (miss known 9 tt t)
 
 -- the first command comes first
-first : (f : Form) (s : List ℕ) → (cs : List Command) × (commandsIn f s ≡ commandOf f s ∷ cs)
+pub first : (f : Form) (s : List ℕ) → (cs : List Command) × (commandsIn f s ≡ commandOf f s ∷ cs)
 unfolding commandsIn commandsFrom
 first f s = (_, refl)
 

@@ -21,7 +21,7 @@ abbrev pub firstOrBytes : List Refusal → ℕ → Measured
 firstOrBytes [] n = Measured.Bytes n
 firstOrBytes (r ∷ rs) n = Measured.Refused r
 
--- MODEL Z5: how many bytes commands have in a form, unless one is none
+-- MODEL Z5: how many bytes commands have in a form, unless reading one met a refusal
 abbrev pub measureOf : Form → List Command → Measured
 measureOf f cs = firstOrBytes (badIn cs) (length (bytesIn f cs))
 

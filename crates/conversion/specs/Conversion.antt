@@ -26,7 +26,7 @@ bytesIn f (c ∷ cs) = bytesOf f c ++ bytesIn f cs
 abbrev pub sessionIn : Form → List Command → List ℕ
 sessionIn f cs = headOf f ++ bytesIn f cs
 
--- MODEL Z5: why bytes are no command, where they are none: 1, 2 or 19
+-- MODEL Z5: the refusal that is met in reading a command: 1, 2 or 19
 abbrev pub badOf : Command → List Refusal
 badOf Command.End = []
 badOf (Command.Set f v) = []
@@ -59,7 +59,7 @@ abbrev pub firstOr : List Refusal → Conversion → Conversion
 firstOr [] otherwise = otherwise
 firstOr (r ∷ rs) otherwise = Conversion.Refused r
 
--- MODEL Z4 and Z5: these commands in a form, unless one is none, or they are too long
+-- MODEL Z4 and Z5: these commands in a form, unless reading one met a refusal, or they are too long
 unfoldable pub converted : Form → List Command → Conversion
 converted f cs =
     firstOr (badIn cs)

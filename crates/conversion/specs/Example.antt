@@ -62,7 +62,7 @@ examples =
           Conversion.Session
           ((0x01 ∷ 0x60 ∷ v 0xFF) ++ (0x01 ∷ 0x60 ∷ v 0x100) ++ (0x01 ∷ 0x60 ∷ v 0x100000000) ++ (0x00 ∷ []));
     }
-    -- MODEL Z4: commands that are refused with 3, 4 and 5 are converted like any other
+    -- MODEL Z4: commands that a session refuses with 3, 4 and 5 are there too
     ∷ record {
       input = (0x01 ∷ 0x0D ∷ v 7) ++ (0x01 ∷ 0x0C ∷ v 32) ++ (0x02 ∷ 0x04 ∷ 0x06 ∷ 0x02 ∷ 0x00 ∷ []);
       conversion =
@@ -85,8 +85,17 @@ examples =
     ∷ record { input = replicate 4096 0x00; conversion = Conversion.Session (0x10 ∷ 0x00 ∷ []) }
     ∷ record { input = 0x10 ∷ replicate 4097 0x00; conversion = Conversion.Refused SessionTooLong }
     ∷ record { input = 0x10 ∷ replicate 4096 0x00; conversion = Conversion.Session (0x00 ∷ []) }
+    -- MODEL Z5: 6 before 1
+    ∷ record { input = replicate 4097 0x13; conversion = Conversion.Refused SessionTooLong }
+    -- MODEL Z4 and Z3: FFFFFFFF has four bytes, and what stands behind the end is not looked at
+    ∷ record {
+      input = (0x01 ∷ 0x60 ∷ v 0xFFFFFFFF) ++ (0x00 ∷ []);
+      conversion = Conversion.Session (0x10 ∷ 0x12 ∷ 0x60 ∷ 0xFF ∷ 0xFF ∷ 0xFF ∷ 0xFF ∷ 0x00 ∷ []);
+    }
+    ∷ record { input = 0x10 ∷ 0x00 ∷ 0x12 ∷ 0x60 ∷ v 1; conversion = Conversion.Session (0x00 ∷ []) }
     -- MODEL Z5: the first of 1, 2 and 19
     ∷ record { input = []; conversion = Conversion.Refused Truncated }
+    ∷ record { input = 0x10 ∷ []; conversion = Conversion.Refused Truncated }
     ∷ record { input = 0x02 ∷ 0x00 ∷ 0x11 ∷ []; conversion = Conversion.Refused UnknownCommand }
     ∷ record {
       input = 0x10 ∷ (0x12 ∷ 0x0D ∷ 0xFF ∷ 0x00 ∷ 0x00 ∷ 0x00 ∷ []) ++ (0x10 ∷ []);
@@ -96,7 +105,8 @@ examples =
       input = 0x10 ∷ 0x10 ∷ 0x12 ∷ 0x0D ∷ 0xFF ∷ 0x00 ∷ 0x00 ∷ 0x00 ∷ [];
       conversion = Conversion.Refused UnknownCommand;
     }
-    -- MODEL Z5: 20 comes last. The long form of 409 sets, three ticks or two, and the end has 4,097 bytes or 4,095
+    -- MODEL Z5: 20 comes last. In the long form 409 sets and the end have 4,091 bytes, with three ticks 4,097, with two and a
+    -- step back 4,096
     ∷ record {
       input = 0x10 ∷ times 409 (0x11 ∷ 0x00 ∷ 0x01 ∷ []) ++ times 3 (0x06 ∷ 0x00 ∷ []) ++ (0x00 ∷ []);
       conversion = Conversion.Refused LongFormTooLong;
@@ -104,6 +114,14 @@ examples =
     ∷ record {
       input = 0x10 ∷ times 409 (0x11 ∷ 0x00 ∷ 0x01 ∷ []) ++ times 3 (0x06 ∷ 0x00 ∷ []) ++ (0x13 ∷ []);
       conversion = Conversion.Refused UnknownCommand;
+    }
+    ∷ record {
+      input = 0x10 ∷ times 409 (0x11 ∷ 0x00 ∷ 0x01 ∷ []) ++ times 3 (0x06 ∷ 0x00 ∷ []);
+      conversion = Conversion.Refused Truncated;
+    }
+    ∷ record {
+      input = 0x10 ∷ times 410 (0x11 ∷ 0x00 ∷ 0x01 ∷ []) ++ (0x01 ∷ 0x00 ∷ v 1) ++ (0x00 ∷ []);
+      conversion = Conversion.Refused SetTooWide;
     }
     ∷ record {
       input = 0x10 ∷ times 409 (0x11 ∷ 0x00 ∷ 0x01 ∷ []) ++ (0x06 ∷ 0x00 ∷ 0x06 ∷ 0x00 ∷ 0x07 ∷ 0x00 ∷ []);

@@ -24,13 +24,13 @@ fn other_form(f: Form) -> Form
     }
 }
 
-// How many bytes commands have in a form, or why one of them is none.
+// How many bytes commands have in a form, or the first refusal that was met in reading them.
 enum Measured {
     Refused(Refusal),
     Bytes(usize),
 }
 
-// How many bytes the commands in bytes of form f have in form g, unless one of them is none.
+// How many bytes the commands in bytes of form f have in form g, unless reading one of them meets a refusal.
 fn measure(f: Form, g: Form, body: &[u8]) -> Measured
     requires { ⌜ length (now body) ≤ longest ⌝ }
     ensures { λ m. ⌜ m ≡ measureOf g (commandsIn f (now (body .entry))) ⌝ }

@@ -19,6 +19,7 @@ fn give(input: &[u8]) {
             console::write(&out[..n]);
         }
         Converted::Refused(r) => refuse(r),
+        // the buffer has room for any session
         Converted::NoRoom => {}
     }
 }

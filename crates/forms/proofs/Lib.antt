@@ -6,3 +6,4 @@ pub mod Bounded
 pub mod Lists
 pub mod Sessions
 pub mod Theorems
+pub mod Witness

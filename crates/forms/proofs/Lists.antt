@@ -5,7 +5,6 @@ use mathlib.Core.List.{List, [], _∷_, _++_, append-nil, append-assoc}
 use mathlib.Core.Path.{_≡_, refl, sym, _∙_, ap, subst}
 use native.Mathlib.Omega.{arith}
 use lib.ListN.{length, take, drop, length-drop, take-append-drop}
-use Rattle.answer.specs.declared.Refusal.{Refusal}
 use Rattle.command.specs.declared.Command.{Command}
 use Rattle.command.specs.declared.Form.{Form}
 use Rattle.command.specs.Command.{commandOf, sizeAt, isLast, commandsFrom, commandsIn}
@@ -13,6 +12,7 @@ use Rattle.command.proofs.Fuel.{commands-last, commands-on}
 use Rattle.command.proofs.Sizes.{size-bounds}
 use Rattle.encode.specs.Encode.{bytesOf}
 use Rattle.conversion.specs.Conversion.{bytesIn, badOf, badIn}
+use Rattle.conversion.proofs.Given.{none-both}
 use Rattle.forms.specs.Claims.{AreBytes, readFrom}
 use Rattle.forms.proofs.Bounded.{front-fits}
 use Rattle.forms.proofs.Numbers.{drop-bytes, drop-front}
@@ -36,11 +36,6 @@ last-is-end (Command.Tick p) h e = cc
 last-is-end Command.Back h e = cc
 last-is-end (Command.Member d) h e = cc
 last-is-end (Command.Bad r) h e = never h
-
--- none among two lists
-none-both : (a b : List Refusal) → a ++ b ≡ [] → (a ≡ []) × (b ≡ [])
-none-both [] b h = (refl, h)
-none-both (r ∷ a) b h = let z : _≡_ {A = ℕ} (suc (length (a ++ b))) 0 = ap length h in let n : ⊥ = omega arith in absurd n
 
 -- the first of them is none that is none
 module _ (f : Form) (n : ℕ) (s : List ℕ) (h : badIn (commandsFrom f (suc n) s) ≡ []) where

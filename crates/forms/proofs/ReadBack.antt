@@ -2,9 +2,9 @@
 use Prim.Native.Nat.{ℕ, suc, _+_, _^_, _<_, _≤_}
 use mathlib.Core.Bool.{Bool, true, false, cond}
 use mathlib.Core.List.{List, [], _∷_, _++_}
-use mathlib.Core.Path.{_≡_, refl, sym, _∙_, ap, subst}
+use mathlib.Core.Path.{_≡_, refl, sym, _∙_, ap}
 use native.Mathlib.Omega.{arith}
-use borrow.Author.Tests.{ltb-true, ltb-false, eqb-true, eqb-false}
+use borrow.Author.Tests.{ltb-false, eqb-true, eqb-false}
 use lib.Dec.{ltb, eqb}
 use lib.ListN.{length, take}
 use Rattle.answer.specs.declared.Refusal.{Refusal}
@@ -15,19 +15,17 @@ use Rattle.command.specs.Command.{
   operandBytes,
   isUnknown,
   narrowest,
-  isTooWide,
   setOf,
   commandWith,
   commandOf,
   sizeAt,
 }
 use Rattle.command.specs.Operand.{operand, littleBytes}
-use Rattle.command.proofs.Width.{narrowest-1, narrowest-4, narrowest-8}
-use Rattle.encode.specs.Encode.{valueBytes, setByte, bytesOf}
+use Rattle.command.proofs.Width.{narrowest-1}
+use Rattle.encode.specs.Encode.{setByte, bytesOf}
 use Rattle.conversion.specs.Conversion.{badOf}
 use Rattle.forms.specs.Claims.{AreBytes}
 use Rattle.forms.proofs.Numbers.{operand-bound, operands-back}
-use Rattle.forms.proofs.Written.{Fits}
 
 -- the bytes are no command for r
 pub never : {A : Type 0} {r : Refusal} → r ∷ [] ≡ [] → A

@@ -1,81 +1,30 @@
 -- Whole sessions: what it says of a session that its conversion gives one, and how that one is read.
-use Prim.Native.Nat.{ℕ, suc, _+_, _<_, _≤_}
-use mathlib.Core.Bool.{Bool, true, false, cond, true≢false}
+use Prim.Native.Nat.{ℕ, _+_, _<_, _≤_}
+use mathlib.Core.Bool.{Bool, true, false, cond}
 use mathlib.Core.List.{List, [], _∷_, _++_, append-nil}
-use mathlib.Core.Path.{_≡_, refl, sym, _∙_, ap, subst}
+use mathlib.Core.Path.{_≡_, refl, sym, _∙_, ap}
 use native.Mathlib.Omega.{arith}
-use borrow.Author.Tests.{le-ltb, ltb-false, eqb-true}
-use lib.Dec.{ltb, eqb}
+use borrow.Author.Tests.{ltb-false, eqb-true}
+use lib.Dec.{eqb}
 use lib.ListN.{length, drop, length-append}
-use Rattle.answer.specs.declared.Refusal.{Refusal}
-use Rattle.answer.specs.declared.Refusal.the-variants.{SessionTooLong, LongFormTooLong}
 use Rattle.command.specs.declared.Command.{Command}
 use Rattle.command.specs.declared.Form.{Form}
 use Rattle.command.specs.Command.{commandsIn, commandsOf}
 use Rattle.command.specs.Form.{headOf, formOf, bodyOf, longest}
 use Rattle.command.specs.Operand.{littleBytes}
-use Rattle.encode.specs.Encode.{valueBytes, setByte, bytesOf}
+use Rattle.encode.specs.Encode.{valueBytes, bytesOf}
 use Rattle.encode.proofs.Bytes.{length-little-bytes, few-value-bytes}
 use Rattle.conversion.specs.Conversion.{
   otherForm,
   bytesIn,
   sessionIn,
-  badIn,
   isTooLong,
-  Conversion,
-  firstOr,
-  converted,
-  conversionOf,
 }
 use Rattle.conversion.proofs.Shorter.{not-longer}
 use Rattle.forms.specs.Claims.{AreBytes}
 use Rattle.forms.proofs.Lists.{Proper, ends, goes, written-commands}
 use Rattle.forms.proofs.Numbers.{append-bytes, little-are-bytes, drop-front}
 use Rattle.forms.proofs.Written.{Fits}
-
--- a refusal is no session
-isSession : Conversion → Bool
-isSession (Conversion.Refused r) = false
-isSession (Conversion.Session t) = true
-
-no-session : {A : Type 0} {r : Refusal} {t : List ℕ} → Conversion.Refused r ≡ Conversion.Session t → A
-unfolding isSession
-no-session e = absurd (true≢false (sym (ap isSession e)))
-
--- what there was to convert
-pub record Converts (s t : List ℕ) : Type 0 where
-  pub short-enough : length (bodyOf s) ≤ longest
-  pub good : badIn (commandsOf s) ≡ []
-  pub fits : isTooLong (otherForm (formOf s)) (length (bytesIn (otherForm (formOf s)) (commandsOf s))) ≡ false
-  pub session : t ≡ sessionIn (otherForm (formOf s)) (commandsOf s)
-
-pub converts : (s t : List ℕ) → conversionOf s ≡ Conversion.Session t → Converts s t
-unfolding conversionOf converted
-converts s t e =
-    go (ltb longest (length (bodyOf s))) (badIn (commandsOf s)) (isTooLong g (length (bytesIn g cs))) refl refl refl e
-  where
-    g : Form
-    g = otherForm (formOf s)
-
-    cs : List Command
-    cs = commandsOf s
-
-    go :
-        (a : Bool) (l : List Refusal) (b : Bool)
-        → ltb longest (length (bodyOf s)) ≡ a
-        → badIn (commandsOf s) ≡ l
-        → isTooLong (otherForm (formOf s)) (length (bytesIn (otherForm (formOf s)) (commandsOf s))) ≡ b
-        → cond a (Conversion.Refused SessionTooLong)
-        (firstOr l
-        (cond b (Conversion.Refused LongFormTooLong)
-        (Conversion.Session (sessionIn (otherForm (formOf s)) (commandsOf s)))))
-        ≡ Conversion.Session t
-        → Converts s t
-    go true l b p q r e = no-session e
-    go false (x ∷ l) b p q r e = no-session e
-    go false [] true p q r e = no-session e
-    go false [] false p q r e =
-        record { short-enough = ltb-false longest (length (bodyOf s)) p; good = q; fits = r; session = cc }
 
 -- a session is what stands before its commands, and their bytes
 pub head-body : (s : List ℕ) → headOf (formOf s) ++ bodyOf s ≡ s

@@ -1,6 +1,6 @@
 -- The claims of specs/Claims hold.
 use Prim.Native.Nat.{ℕ, suc, _+_, _≤_}
-use mathlib.Core.Bool.{Bool, true, false, cond}
+use mathlib.Core.Bool.{false}
 use mathlib.Core.List.{List, [], _∷_, _++_, append-assoc}
 use mathlib.Core.Path.{_≡_, refl, sym, _∙_, ap, subst}
 use native.Mathlib.Omega.{arith}
@@ -10,8 +10,18 @@ use Rattle.command.specs.declared.Command.{Command}
 use Rattle.command.specs.declared.Form.{Form}
 use Rattle.command.specs.Command.{commandsIn, commandsOf}
 use Rattle.command.specs.Form.{headOf, formOf, bodyOf, longest}
-use Rattle.encode.specs.Encode.{bytesOf}
-use Rattle.conversion.specs.Conversion.{otherForm, bytesIn, sessionIn, isTooLong, Conversion, converted, conversionOf}
+use Rattle.conversion.specs.Conversion.{
+  otherForm,
+  bytesIn,
+  sessionIn,
+  badOf,
+  badIn,
+  isTooLong,
+  Conversion,
+  converted,
+  conversionOf,
+}
+use Rattle.conversion.proofs.Given.{Converts, converts, none-both, some-given}
 use Rattle.execute.specs.Execute.{perform}
 use Rattle.listing.specs.History.{begun}
 use Rattle.transcript.specs.Session.{linesFrom, answersIn, answersOf, outputOf}
@@ -20,18 +30,19 @@ use Rattle.forms.specs.Claims.{
   readFrom,
   readOf,
   OtherForm,
+  HasOther,
+  SameCommands,
   SameLines,
-  ThereAndBack,
   ReadsThrough,
+  ThereAndBack,
   OneMore,
+  NotLongerIn,
   NotLonger,
   NotEmpty,
 }
 use Rattle.forms.proofs.Lists.{Proper, proper, read-back, read-front, proper-end}
 use Rattle.forms.proofs.Numbers.{drop-bytes}
 use Rattle.forms.proofs.Sessions.{
-  Converts,
-  converts,
   head-body,
   written-form,
   written-body,
@@ -102,6 +113,31 @@ module _ (s t : List ℕ) (o : OtherForm s t) where
       rw (le-ltb longest (length (bodyOf t)) other-short, form, same-commands, how .good, not-too-long (formOf s) own-short)
       (ap Conversion.Session read-session)
 
+pub same-form-and-commands : SameCommands
+same-form-and-commands s t o = (
+  ap formOf (how s t o .session) ∙ written-form (otherForm (formOf s)) (commandsOf s) (all-proper s t o),
+  same-commands s t o,
+)
+
+-- no refusal was met, the end command included
+none-and-end : (cs : List Command) → badIn cs ≡ [] → badIn (cs ++ (Command.End ∷ [])) ≡ []
+unfolding badIn
+none-and-end [] h = refl
+none-and-end (c ∷ cs) h =
+    let none = none-both (badOf c) (badIn cs) h in
+    (λ i. none .0 i ++ none-and-end cs (none .1) i)
+
+pub has-other : HasOther
+unfolding conversionOf converted
+has-other s cs c =
+    let good : badIn (commandsOf s) ≡ [] = ap badIn (c .reads) ∙ none-and-end cs (c .good) in (
+      sessionIn (otherForm (formOf s)) (commandsOf s),
+      record {
+        bytes = c .bytes;
+        converts = rw (le-ltb longest (length (bodyOf s)) (c .short-enough), good, c .fits);
+      },
+    )
+
 pub same-lines : SameLines
 unfolding outputOf
 same-lines s t o =
@@ -131,31 +167,18 @@ reads-through s t o =
       proper-end (commandsOf s) (all-proper s t o),
     )
 
-one-more : (f : Form) (cs : List Command) → OneMore f (sessionIn f cs) (sessionIn (otherForm f) cs)
-one-more Form.Long cs = omega (arith, all-shorter cs)
-one-more Form.Short cs = omega (arith, all-shorter cs)
+pub one-more : OneMore
+one-more cs = omega (arith, all-shorter cs)
+
+either-form : (f : Form) (cs : List Command) → NotLongerIn f (sessionIn f cs) (sessionIn (otherForm f) cs)
+either-form Form.Long cs = one-more cs
+either-form Form.Short cs = one-more cs
 
 pub not-longer-by-more : NotLonger
 not-longer-by-more s t o =
-    subst (λ (r : List ℕ). OneMore (formOf s) r t) (read-session s t o)
-    (subst (λ (u : List ℕ). OneMore (formOf s) (sessionIn (formOf s) (commandsOf s)) u) (sym (how s t o .session))
-    (one-more (formOf s) (commandsOf s)))
-
--- an end command has a byte
-ended : (f : Form) (cs : List Command) → 1 ≤ length (bytesIn f (cs ++ (Command.End ∷ [])))
-unfolding bytesIn bytesOf
-ended f [] = omega arith
-ended f (c ∷ cs) =
-    omega (arith, ended f cs, length-append (bytesOf f c) (bytesIn f (cs ++ (Command.End ∷ []))))
+    subst (λ (r : List ℕ). NotLongerIn (formOf s) r t) (read-session s t o)
+    (subst (λ (u : List ℕ). NotLongerIn (formOf s) (sessionIn (formOf s) (commandsOf s)) u) (sym (how s t o .session))
+    (either-form (formOf s) (commandsOf s)))
 
 pub not-empty : NotEmpty
-not-empty s t o =
-    let g = otherForm (formOf s) in
-    let end = proper-end (commandsOf s) (all-proper s t o) in
-    omega (
-      arith,
-      ap length (how s t o .session),
-      length-append (headOf g) (bytesIn g (commandsOf s)),
-      ap (λ (cs : List Command). length (bytesIn g cs)) (end .1),
-      ended g (end .0),
-    )
+not-empty s t o = some-given s t (o .converts)

@@ -72,16 +72,17 @@ examples =
           ++ (0x00 ∷ []);
       output = "1 ok\n2 ok\n3 ok\n4 end\n";
     }
-    -- MODEL Z3, R19, V1 and V2: a byte in four, four in eight; before 3 and 4, and reading goes on
+    -- MODEL Z3, R19, V1 and V2: a byte in four, four in eight, a byte in eight; before 3 and 4, and reading goes on
     ∷ record {
       input =
           0x10
           ∷ (0x12 ∷ 0x0C ∷ 0xFF ∷ 0x00 ∷ 0x00 ∷ 0x00 ∷ [])
           ++ (0x01 ∷ 0x0D ∷ v 0xFFFFFFFF)
+          ++ (0x01 ∷ 0x0C ∷ v 1)
           ++ (0x11 ∷ 0x0D ∷ 0x00 ∷ [])
           ++ (0x11 ∷ 0x0C ∷ 0x20 ∷ [])
           ++ (0x00 ∷ []);
-      output = "1 refused 19\n2 refused 19\n3 refused 3\n4 refused 4\n5 end\n";
+      output = "1 refused 19\n2 refused 19\n3 refused 19\n4 refused 3\n5 refused 4\n6 end\n";
     }
     -- MODEL R2 and V1: cut off before it is too wide
     ∷ record { input = 0x10 ∷ 0x12 ∷ 0x0C ∷ 0x01 ∷ 0x00 ∷ 0x00 ∷ []; output = "1 refused 2\n" }

@@ -1,6 +1,5 @@
 -- `answer::refusal_number` meets its contract: in each arm of its match the refusal is the one that the arm names.
 use mathlib.Core.Path.{_≡_, sym, ap}
-use Prim.Native.Nat.{ℕ}
 use borrow.Author.Needs.{needs}
 use Rattle.answer.specs.declared.Refusal.{Refusal}
 use Rattle.answer.specs.Numbers.{refusalNumber}

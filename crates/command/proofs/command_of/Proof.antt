@@ -18,22 +18,23 @@ returns-2 c =
 
 returns-3 : tie.Need-returns-3
 returns-3 c =
-    let at-if2 = c .before .before in
-    let at-is-unknown = at-if2 .before in
-    let at-start = at-is-unknown .before .before .before .before in
-    let known = sym (at-is-unknown .is-unknown .ensures) ∙ at-if2 .if2 .left in
-    sym (front-cut _ (at-start .args .t .now) (omega arith) known (omega (arith, c .before .operand-bytes .ensures)))
-
-returns-4 : tie.Need-returns-4
-returns-4 c =
     let at-operand-bytes = c .before .before in
     let at-if2 = at-operand-bytes .before in
     let at-is-unknown = at-if2 .before in
     let at-start = at-is-unknown .before .before .before .before in
     let known = sym (at-is-unknown .is-unknown .ensures) ∙ at-if2 .if2 .left in
     c .command-with .ensures
-    ∙ sym
-    (front-whole _ (at-start .args .t .now) (omega arith) known (omega (arith, at-operand-bytes .operand-bytes .ensures)))
+    ∙ sym (front-whole _ (at-start .args .t .now) (omega arith) known
+    (omega (arith, at-operand-bytes .operand-bytes .ensures, c .before .if3 .taken)))
+
+returns-4 : tie.Need-returns-4
+returns-4 c =
+    let at-if2 = c .before .before in
+    let at-is-unknown = at-if2 .before in
+    let at-start = at-is-unknown .before .before .before .before in
+    let known = sym (at-is-unknown .is-unknown .ensures) ∙ at-if2 .if2 .left in
+    sym (front-cut _ (at-start .args .t .now) (omega arith) known
+    (omega (arith, c .before .operand-bytes .ensures, c .if3 .left)))
 
 pub command-of-spec : {M : Type 1} → statement M
 command-of-spec =
@@ -43,8 +44,8 @@ command-of-spec =
     (λ c. search needs)
     (λ c κs. search needs)
     returns-2
+    (λ c κs. search needs)
     (λ c. search needs)
     (λ c κs. search needs)
     returns-3
-    (λ c κs. search needs)
     returns-4)

@@ -1,6 +1,5 @@
 -- `conversion::convert` meets its contract: a case for each branch, by the contracts of what it calls.
 use Prim.Native.Nat.{_-_}
-use mathlib.Core.Path.{subst}
 use native.Mathlib.Omega.{arith}
 use borrow.Author.Needs.{needs}
 use Rattle.conversion.proofs.Whole.{gives-refusal, session-long, session-run, too-short, enough, gives-on}

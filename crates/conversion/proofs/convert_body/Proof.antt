@@ -1,5 +1,5 @@
 -- `conversion::convert_body` meets its contract: a case for each branch, by the contracts of what it calls.
-use mathlib.Core.Path.{_≡_, sym, _∙_, ap}
+use mathlib.Core.Path.{sym, _∙_, ap}
 use native.Mathlib.Omega.{arith}
 use borrow.Author.Needs.{needs}
 use Rattle.command.specs.Command.{commandsIn}

@@ -1,5 +1,5 @@
 -- `encode::put` meets its contract: what is stored and the bytes that are left are those of the whole number.
-use Prim.Native.Nat.{_+_, _≤_}
+use Prim.Native.Nat.{_+_}
 use mathlib.Core.Path.{_≡_, refl, sym, _∙_}
 use native.Mathlib.Omega.{arith}
 use lib.ListN.{length, length-set}

@@ -1,5 +1,5 @@
 -- `encode::size` meets its contract: the bytes of the three numbers are those of the command.
-use mathlib.Core.Path.{_≡_, sym, _∙_, ap}
+use mathlib.Core.Path.{sym, _∙_, ap}
 use native.Mathlib.Omega.{arith}
 use borrow.Author.Needs.{needs}
 use lib.ListN.{length}

@@ -1,5 +1,4 @@
 -- `transcript::session` meets its contract: a case for each branch, by the contracts of what it calls.
-use mathlib.Core.Path.{_≡_, sym, _∙_, ap}
 use native.Mathlib.Omega.{arith}
 use Rattle.transcript.proofs.Whole.{too-short, enough, output-long, output-run}
 use borrow.Author.Needs.{needs}

@@ -1,6 +1,5 @@
 -- `command::forms::body_start` meets its contract.
-use Prim.Native.Nat.{_≤_}
-use mathlib.Core.Path.{_∙_, ap, subst, sym}
+use mathlib.Core.Path.{_∙_, ap}
 use native.Mathlib.Omega.{arith}
 use borrow.Author.Needs.{needs}
 use lib.ListN.{length}

@@ -1,5 +1,4 @@
 -- `command::forms::is_unknown` meets its contract: a case for each branch.
-use mathlib.Core.Path.{sym}
 use borrow.Author.Needs.{needs}
 use borrow.Author.Tests.{eq-eqb, ne-eqb}
 use Rattle.command.proofs.forms.is_unknown.Statement.{statement}
