@@ -9,8 +9,9 @@ use lib.Dec.{ltb}
 use lib.ListN.{length, getD, drop}
 use Rattle.answer.specs.declared.Refusal.the-variants.{UnknownCommand, Truncated}
 use Rattle.command.specs.declared.Command.{Command}
-use Rattle.command.specs.declared.Form.{Form}
-use Rattle.command.specs.Command.{operandBytes, isUnknown, commandWith, commandOf}
+use Rattle.form.specs.declared.Form.{Form}
+use Rattle.command.specs.Command.{operandBytes, commandWith, commandOf}
+use Rattle.form.specs.Sets.{isUnknown}
 
 pub front-none : (f : Form) (s : List ℕ) → length s ≡ 0 → commandOf f s ≡ Command.Bad Truncated
 unfolding commandOf

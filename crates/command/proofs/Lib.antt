@@ -4,4 +4,3 @@ pub mod Operands
 pub mod Sizes
 pub mod Fuel
 pub mod Place
-pub mod Width

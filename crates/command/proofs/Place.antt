@@ -4,16 +4,12 @@ use mathlib.Core.Bool.{false}
 use mathlib.Core.List.{List}
 use mathlib.Core.Path.{_≡_, sym, _∙_, ap}
 use native.Mathlib.Omega.{arith}
-use lib.ListN.{length, take, drop, length-drop}
-use lib.Seq.{take-all}
+use lib.ListN.{length, take, drop}
 use Rattle.command.specs.declared.Command.{Command}
-use Rattle.command.specs.declared.Form.{Form}
+use Rattle.form.specs.declared.Form.{Form}
 use Rattle.command.specs.Command.{commandOf, sizeAt, isLast}
-use Rattle.command.specs.Form.{headOf, formOf, bodyOf}
+use Rattle.form.proofs.Body.{part-all}
 use Rattle.command.proofs.Sizes.{size-bounds}
-
-pub part-all : (s : List ℕ) (at : ℕ) → take (length s - at) (drop at s) ≡ drop at s
-part-all s at = take-all (length s - at) (drop at s) (simp length-drop (omega arith))
 
 pub size-here : (s : List ℕ) (at : ℕ) {n : ℕ} → n ≡ sizeAt (take (length s - at) (drop at s)) → n ≡ sizeAt (drop at s)
 size-here s at e = e ∙ ap sizeAt (part-all s at)
@@ -30,11 +26,3 @@ module _ (f : Form) (s : List ℕ) (at : ℕ) where
       → 1 ≤ n
   size-some-here found there e =
       omega (arith, size-here s at there, size-bounds f (drop at s) (ap isLast (sym (command-here found)) ∙ e) .0)
-
--- the commands begin at a place of the session, and are the rest of it
-module _ (s : List ℕ) where
-  pub body-length : {at : ℕ} → at ≡ length (headOf (formOf s)) → length (bodyOf s) ≡ length s - at
-  body-length e = length-drop _ s ∙ ap (λ n. length s - n) (sym e)
-
-  pub body-here : {at : ℕ} → at ≡ length (headOf (formOf s)) → take (length s - at) (drop at s) ≡ bodyOf s
-  body-here {at} e = part-all s at ∙ ap (λ n. drop n s) e

@@ -9,9 +9,10 @@ use lib.Dec.{leb, ltb}
 use lib.ListN.{length, getD}
 use Rattle.answer.specs.declared.Refusal.the-variants.{UnknownCommand, Truncated}
 use Rattle.command.specs.declared.Command.{Command}
-use Rattle.command.specs.declared.Form.{Form}
+use Rattle.form.specs.declared.Form.{Form}
 use Rattle.bits.proofs.Choice.{either}
-use Rattle.command.specs.Command.{operandBytes, isUnknown, commandWith, commandOf, sizeAt, isLast, isBack}
+use Rattle.command.specs.Command.{operandBytes, commandWith, commandOf, sizeAt, isLast, isBack}
+use Rattle.form.specs.Sets.{isUnknown}
 
 pub size-none : (s : List ℕ) → length s ≡ 0 → sizeAt s ≡ 0
 size-none [] h = refl

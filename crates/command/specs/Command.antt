@@ -1,5 +1,5 @@
 -- Commands out of a session's bytes: which there are, how many bytes each takes, and which is the last.
-use Prim.Native.Nat.{ℕ, zero, suc, _+_, _^_}
+use Prim.Native.Nat.{ℕ, zero, suc, _+_}
 use mathlib.Core.Bool.{Bool, true, false, cond}
 use mathlib.Core.List.{List, [], _∷_}
 use lib.Dec.{leb, ltb, eqb}
@@ -8,8 +8,9 @@ use Rattle.answer.specs.declared.Refusal.{Refusal}
 use Rattle.answer.specs.declared.Refusal.the-variants.{UnknownCommand, Truncated, SetTooWide}
 use Rattle.answer.specs.Numbers.{refusalNumber}
 use Rattle.command.specs.declared.Command.{Command}
-use Rattle.command.specs.declared.Form.{Form}
-use Rattle.command.specs.Form.{formOf, bodyOf}
+use Rattle.form.specs.declared.Form.{Form}
+use Rattle.form.specs.Form.{formOf, bodyOf}
+use Rattle.form.specs.Sets.{isUnknown, isTooWide}
 use Rattle.command.specs.Operand.{operand}
 
 -- MODEL S1 and Z2: the bytes of the operands behind each command byte
@@ -25,20 +26,6 @@ operandBytes c =
     (cond (eqb c 0x08) 1
     (cond (eqb c 0x11) 2
     (cond (eqb c 0x12) 5 0)))))))))
-
--- MODEL R1 and Z2: no command of the form has this byte
-abbrev pub isUnknown : Form → ℕ → Bool
-isUnknown Form.Long c = ltb 0x08 c
-isUnknown Form.Short c = cond (eqb c 0x11) false (cond (eqb c 0x12) false (ltb 0x08 c))
-
--- MODEL Z3: how many bytes the narrowest of the short form's sets that holds a value gives it
-abbrev pub narrowest : ℕ → ℕ
-narrowest v = cond (ltb v (256 ^ 1)) 1 (cond (ltb v (256 ^ 4)) 4 8)
-
--- MODEL Z3: the form has a narrower set for the value than one with k bytes
-abbrev pub isTooWide : Form → ℕ → ℕ → Bool
-isTooWide Form.Long k v = false
-isTooWide Form.Short k v = ltb (narrowest v) k
 
 -- MODEL S1, Z2 and R19: the set of field a to value v, which has k bytes
 abbrev pub setOf : Form → ℕ → ℕ → ℕ → Command

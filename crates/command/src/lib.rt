@@ -1,19 +1,13 @@
 // A session's bytes as commands: the command that they begin with, with its little-endian operands, or why there is none.
-pub mod forms; // forms.rt: the form of a session, and what each form has of commands
 pub mod reading; // reading.rt: how far reading goes on
 
 ghost use mathlib.Core.Path.{_≡_};
 ghost use Prim.Native.Nat.{_+_, _≤_, _<_, _^_};
 ghost use lib.ListN.{length, drop};
 ghost use Rattle.command.specs.Operand.{operand};
-ghost use Rattle.command.specs.Command.{operandBytes, commandWith, commandOf};
+ghost use Rattle.command.specs.Command.{operandBytes, setOf, commandWith, commandOf};
 use answer::Refusal;
-
-// The form of a session's bytes. The short form begins with the byte 10, and its sets have values of 1, 4 or 8 bytes.
-pub enum Form {
-    Long,
-    Short,
-}
+use form::Form;
 
 // A command of a session with its operands, or why its bytes are none.
 pub enum Command {
@@ -60,6 +54,19 @@ fn eight(s: &[u8], at: usize) -> u64
     four(s, at) + 0x100000000 * four(s, at + 4)
 }
 
+// The set command whose value has k bytes.
+fn set_of(f: Form, k: usize, field: u8, value: u64) -> Command
+    ensures { λ c. ⌜ c ≡ setOf f k field value ⌝ }
+{
+    if form::is_too_wide(f, k, value) {
+        return Command::Bad(Refusal::SetTooWide);
+    }
+    Command::Set {
+        field: field,
+        value: value,
+    }
+}
+
 // How many bytes of operands follow a command byte.
 fn operand_bytes(c: u8) -> usize
     ensures { λ r. ⌜ r ≡ operandBytes c ⌝ }
@@ -85,7 +92,7 @@ fn command_with(f: Form, c: u8, t: &[u8]) -> Command
     ensures { λ r. ⌜ r ≡ commandWith f c (drop 1 (now (t .entry))) ⌝ }
 {
     match c {
-        0x01 => forms::set_of(f, 8, t[1], eight(t, 2)),
+        0x01 => set_of(f, 8, t[1], eight(t, 2)),
         0x02 => Command::Level { level: t[1] },
         0x03 => Command::Access {
             word: four(t, 1) as u32,
@@ -101,8 +108,8 @@ fn command_with(f: Form, c: u8, t: &[u8]) -> Command
         0x06 => Command::Tick { prohibited: t[1] },
         0x07 => Command::Back,
         0x08 => Command::Member { draw: t[1] },
-        0x11 => forms::set_of(f, 1, t[1], zero_extend(t[2])),
-        0x12 => forms::set_of(f, 4, t[1], four(t, 2)),
+        0x11 => set_of(f, 1, t[1], zero_extend(t[2])),
+        0x12 => set_of(f, 4, t[1], four(t, 2)),
         _ => Command::End,
     }
 }
@@ -115,7 +122,7 @@ pub fn command_of(f: Form, t: &[u8]) -> Command
         return Command::Bad(Refusal::Truncated);
     }
     let c = t[0];
-    if forms::is_unknown(f, c) {
+    if form::is_unknown(f, c) {
         return Command::Bad(Refusal::UnknownCommand);
     }
     if operand_bytes(c) <= t.len() - 1 {

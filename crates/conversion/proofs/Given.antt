@@ -10,9 +10,9 @@ use lib.ListN.{length, length-append}
 use Rattle.answer.specs.declared.Refusal.{Refusal}
 use Rattle.answer.specs.declared.Refusal.the-variants.{SessionTooLong, LongFormTooLong}
 use Rattle.command.specs.declared.Command.{Command}
-use Rattle.command.specs.declared.Form.{Form}
+use Rattle.form.specs.declared.Form.{Form}
 use Rattle.command.specs.Command.{commandOf, commandsIn, commandsOf}
-use Rattle.command.specs.Form.{headOf, formOf, bodyOf, longest}
+use Rattle.form.specs.Form.{headOf, formOf, bodyOf, longest}
 use Rattle.encode.specs.Encode.{bytesOf}
 use Rattle.conversion.specs.Conversion.{
   otherForm,

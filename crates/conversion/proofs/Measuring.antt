@@ -10,7 +10,7 @@ use lib.ListN.{length, take, drop, length-drop, length-append}
 use lib.Seq.{drop-drop}
 use Rattle.answer.specs.declared.Refusal.{Refusal}
 use Rattle.command.specs.declared.Command.{Command}
-use Rattle.command.specs.declared.Form.{Form}
+use Rattle.form.specs.declared.Form.{Form}
 use Rattle.command.specs.Command.{commandOf, sizeAt, isLast, commandsFrom, commandsIn}
 use Rattle.command.proofs.Command as C′
 use Rattle.command.proofs.Fuel.{commands-last, commands-on}

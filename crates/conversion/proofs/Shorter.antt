@@ -9,8 +9,9 @@ use lib.Dec.{leb, ltb}
 use lib.ListN.{length, drop, length-drop, length-append}
 use Rattle.answer.specs.declared.Refusal.the-variants.{UnknownCommand, Truncated}
 use Rattle.command.specs.declared.Command.{Command}
-use Rattle.command.specs.declared.Form.{Form}
-use Rattle.command.specs.Command.{operandBytes, isUnknown, commandWith, commandOf, sizeAt, isLast, commandsFrom, commandsIn}
+use Rattle.form.specs.declared.Form.{Form}
+use Rattle.command.specs.Command.{operandBytes, commandWith, commandOf, sizeAt, isLast, commandsFrom, commandsIn}
+use Rattle.form.specs.Sets.{isUnknown}
 use Rattle.command.proofs.Sizes.{size-bounds}
 use Rattle.encode.specs.Encode.{bytesOf, valueBytes}
 use Rattle.encode.proofs.Bytes.{length-little-bytes, few-value-bytes}

@@ -12,10 +12,10 @@ use lib.Seq.{sets-eq}
 use Rattle.answer.specs.declared.Refusal.{Refusal}
 use Rattle.answer.specs.declared.Refusal.the-variants.{SessionTooLong, LongFormTooLong}
 use Rattle.command.specs.declared.Command.{Command}
-use Rattle.command.specs.declared.Form.{Form}
+use Rattle.form.specs.declared.Form.{Form}
 use Rattle.command.specs.Command.{commandsIn}
-use Rattle.command.specs.Form.{headOf, formOf, bodyOf, longest}
-use Rattle.command.proofs.Place.{body-length, body-here}
+use Rattle.form.specs.Form.{headOf, formOf, bodyOf, longest}
+use Rattle.form.proofs.Body.{body-length, body-here}
 use Rattle.text.specs.Written.{Written}
 use Rattle.text.proofs.Sets.{written-on}
 use Rattle.conversion.specs.declared.Converted.{Converted}

@@ -7,9 +7,9 @@ use native.Mathlib.Omega.{arith}
 use lib.ListN.{length, set, take, drop, length-drop, length-append}
 use lib.Seq.{sets, drop-drop, length-sets}
 use Rattle.command.specs.declared.Command.{Command}
-use Rattle.command.specs.declared.Form.{Form}
+use Rattle.form.specs.declared.Form.{Form}
 use Rattle.command.specs.Command.{commandOf, sizeAt, isLast, commandsIn}
-use Rattle.command.specs.Form.{headOf}
+use Rattle.form.specs.Form.{headOf}
 use Rattle.command.proofs.Fuel.{commands-last, commands-on}
 use Rattle.command.proofs.Place.{command-here, size-here}
 use Rattle.command.proofs.Sizes.{size-bounds}

@@ -6,8 +6,8 @@ use lib.Dec.{ltb}
 use lib.ListN.{length, drop}
 use Rattle.answer.specs.declared.Refusal.{Refusal}
 use Rattle.command.specs.declared.Command.{Command}
-use Rattle.command.specs.declared.Form.{Form}
-use Rattle.command.specs.Form.{longest}
+use Rattle.form.specs.declared.Form.{Form}
+use Rattle.form.specs.Form.{longest}
 use Rattle.conversion.specs.declared.Converted.{Converted}
 use Rattle.conversion.specs.declared.Measured.{Measured}
 use Rattle.conversion.specs.Conversion.{bytesIn, badIn, Conversion, conversionOf}

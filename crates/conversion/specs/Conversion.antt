@@ -7,9 +7,9 @@ use lib.ListN.{length}
 use Rattle.answer.specs.declared.Refusal.{Refusal}
 use Rattle.answer.specs.declared.Refusal.the-variants.{SessionTooLong, LongFormTooLong}
 use Rattle.command.specs.declared.Command.{Command}
-use Rattle.command.specs.declared.Form.{Form}
+use Rattle.form.specs.declared.Form.{Form}
 use Rattle.command.specs.Command.{commandsOf}
-use Rattle.command.specs.Form.{headOf, formOf, bodyOf, longest}
+use Rattle.form.specs.Form.{headOf, formOf, bodyOf, longest}
 use Rattle.encode.specs.Encode.{bytesOf}
 
 -- MODEL Z4: the form that a session is converted to

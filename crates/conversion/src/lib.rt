@@ -3,13 +3,13 @@ ghost use mathlib.Core.Path.{_≡_};
 ghost use Prim.Native.Nat.{_+_, _≤_};
 ghost use lib.ListN.{length};
 ghost use Rattle.command.specs.Command.{commandsIn};
-ghost use Rattle.command.specs.Form.{headOf, longest};
+ghost use Rattle.form.specs.Form.{headOf, longest};
 ghost use Rattle.text.specs.Written.{Written};
 ghost use Rattle.conversion.specs.Conversion.{otherForm, bytesIn, isTooLong, converted};
 ghost use Rattle.conversion.specs.Call.{room, measureOf, answerOf, heldOf, resultOf, bufferOf};
 use answer::Refusal;
 use command::Command;
-use command::Form;
+use form::Form;
 
 // The bytes that any session fits into, in either form: `room` of specs/Call.antt.
 pub const ROOM: usize = 4097;
@@ -130,8 +130,8 @@ pub fn convert(input: &[u8], out: &mut [u8]) -> Converted
     if out.len() < ROOM {
         return Converted::NoRoom;
     }
-    let f = command::forms::form_of(input);
-    let start = command::forms::body_start(input);
+    let f = form::form_of(input);
+    let start = form::body_start(input);
     if 4096 < input.len() - start {
         return Converted::Refused(Refusal::SessionTooLong);
     }

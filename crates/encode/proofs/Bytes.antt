@@ -8,7 +8,7 @@ use borrow.Author.Tests.{leb-true}
 use lib.ListN.{length, set, length-append}
 use lib.Seq.{sets}
 use Rattle.command.specs.declared.Command.{Command}
-use Rattle.command.specs.declared.Form.{Form}
+use Rattle.form.specs.declared.Form.{Form}
 use Rattle.command.specs.Operand.{littleBytes}
 use Rattle.bits.proofs.Choice.{either}
 use Rattle.text.specs.Written.{Written}

@@ -4,8 +4,8 @@ use mathlib.Core.Bool.{cond}
 use mathlib.Core.List.{List, [], _∷_, _++_}
 use lib.Dec.{eqb}
 use Rattle.command.specs.declared.Command.{Command}
-use Rattle.command.specs.declared.Form.{Form}
-use Rattle.command.specs.Command.{narrowest}
+use Rattle.form.specs.declared.Form.{Form}
+use Rattle.form.specs.Sets.{narrowest}
 use Rattle.command.specs.Operand.{littleBytes}
 
 -- MODEL S1 and Z3: how many bytes a set command of the form gives its value

@@ -8,7 +8,7 @@ ghost use Rattle.text.specs.Written.{Written};
 ghost use Rattle.encode.specs.Encode.{valueBytes, setByte, bytesOf};
 ghost use Rattle.encode.specs.Layout.{laid};
 use command::Command;
-use command::Form;
+use form::Form;
 
 // A number and how many bytes hold it.
 pub struct Part {
@@ -35,7 +35,7 @@ fn value_bytes(f: Form, v: u64) -> usize
 {
     match f {
         Form::Long => 8,
-        Form::Short => command::forms::narrowest(v),
+        Form::Short => form::narrowest(v),
     }
 }
 

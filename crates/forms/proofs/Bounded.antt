@@ -9,8 +9,9 @@ use lib.Dec.{ltb, eqb}
 use lib.ListN.{length}
 use Rattle.answer.specs.declared.Refusal.the-variants.{UnknownCommand, Truncated, SetTooWide}
 use Rattle.command.specs.declared.Command.{Command}
-use Rattle.command.specs.declared.Form.{Form}
-use Rattle.command.specs.Command.{operandBytes, isUnknown, isTooWide, setOf, commandWith, commandOf}
+use Rattle.form.specs.declared.Form.{Form}
+use Rattle.command.specs.Command.{operandBytes, setOf, commandWith, commandOf}
+use Rattle.form.specs.Sets.{isUnknown, isTooWide}
 use Rattle.command.specs.Operand.{operand}
 use Rattle.conversion.specs.Conversion.{badOf}
 use Rattle.forms.specs.Claims.{AreBytes}

@@ -10,18 +10,11 @@ use lib.ListN.{length, take}
 use Rattle.answer.specs.declared.Refusal.{Refusal}
 use Rattle.answer.specs.declared.Refusal.the-variants.{UnknownCommand, Truncated, SetTooWide}
 use Rattle.command.specs.declared.Command.{Command}
-use Rattle.command.specs.declared.Form.{Form}
-use Rattle.command.specs.Command.{
-  operandBytes,
-  isUnknown,
-  narrowest,
-  setOf,
-  commandWith,
-  commandOf,
-  sizeAt,
-}
+use Rattle.form.specs.declared.Form.{Form}
+use Rattle.command.specs.Command.{operandBytes, setOf, commandWith, commandOf, sizeAt}
+use Rattle.form.specs.Sets.{isUnknown, narrowest}
 use Rattle.command.specs.Operand.{operand, littleBytes}
-use Rattle.command.proofs.Width.{narrowest-1}
+use Rattle.form.proofs.Width.{narrowest-1}
 use Rattle.encode.specs.Encode.{setByte, bytesOf}
 use Rattle.conversion.specs.Conversion.{badOf}
 use Rattle.forms.specs.Claims.{AreBytes}

@@ -8,9 +8,9 @@ use borrow.Author.Tests.{ltb-false, eqb-true}
 use lib.Dec.{eqb}
 use lib.ListN.{length, drop, length-append}
 use Rattle.command.specs.declared.Command.{Command}
-use Rattle.command.specs.declared.Form.{Form}
+use Rattle.form.specs.declared.Form.{Form}
 use Rattle.command.specs.Command.{commandsIn, commandsOf}
-use Rattle.command.specs.Form.{headOf, formOf, bodyOf, longest}
+use Rattle.form.specs.Form.{headOf, formOf, bodyOf, longest}
 use Rattle.command.specs.Operand.{littleBytes}
 use Rattle.encode.specs.Encode.{valueBytes, bytesOf}
 use Rattle.encode.proofs.Bytes.{length-little-bytes, few-value-bytes}

@@ -7,9 +7,9 @@ use native.Mathlib.Omega.{arith}
 use borrow.Author.Tests.{le-ltb}
 use lib.ListN.{length, length-append}
 use Rattle.command.specs.declared.Command.{Command}
-use Rattle.command.specs.declared.Form.{Form}
+use Rattle.form.specs.declared.Form.{Form}
 use Rattle.command.specs.Command.{commandsIn, commandsOf}
-use Rattle.command.specs.Form.{headOf, formOf, bodyOf, longest}
+use Rattle.form.specs.Form.{headOf, formOf, bodyOf, longest}
 use Rattle.conversion.specs.Conversion.{
   otherForm,
   bytesIn,

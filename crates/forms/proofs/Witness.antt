@@ -4,7 +4,7 @@ use mathlib.Core.List.{List, [], _∷_}
 use mathlib.Core.Path.{refl}
 use native.Mathlib.Omega.{arith}
 use Rattle.command.specs.declared.Command.{Command}
-use Rattle.command.specs.declared.Form.{Form}
+use Rattle.form.specs.declared.Form.{Form}
 use Rattle.command.specs.Command.{commandOf, commandsFrom, commandsIn}
 use Rattle.encode.specs.Encode.{bytesOf}
 use Rattle.conversion.specs.Conversion.{bytesIn, sessionIn, badIn, converted, conversionOf}

@@ -8,10 +8,11 @@ use borrow.Author.Tests.{le-ltb, ltb-true, ltb-false}
 use lib.Dec.{ltb}
 use lib.ListN.{length, length-append}
 use Rattle.command.specs.declared.Command.{Command}
-use Rattle.command.specs.declared.Form.{Form}
-use Rattle.command.specs.Command.{operandBytes, isUnknown, narrowest, setOf, commandWith, commandOf, sizeAt}
+use Rattle.form.specs.declared.Form.{Form}
+use Rattle.command.specs.Command.{operandBytes, setOf, commandWith, commandOf, sizeAt}
+use Rattle.form.specs.Sets.{isUnknown, narrowest}
 use Rattle.command.specs.Operand.{littleBytes}
-use Rattle.command.proofs.Width.{narrowest-1, narrowest-4, narrowest-8}
+use Rattle.form.proofs.Width.{narrowest-1, narrowest-4, narrowest-8}
 use Rattle.encode.specs.Encode.{valueBytes, setByte, bytesOf}
 use Rattle.encode.proofs.Bytes.{length-little-bytes}
 use Rattle.forms.proofs.Numbers.{first-read, second-read}

@@ -5,9 +5,9 @@ use mathlib.Core.List.{List, [], _∷_, _++_}
 use mathlib.Core.Path.{_≡_}
 use lib.ListN.{length, take, drop}
 use Rattle.command.specs.declared.Command.{Command}
-use Rattle.command.specs.declared.Form.{Form}
+use Rattle.form.specs.declared.Form.{Form}
 use Rattle.command.specs.Command.{commandOf, sizeAt, isLast, commandsOf}
-use Rattle.command.specs.Form.{headOf, formOf, bodyOf, longest}
+use Rattle.form.specs.Form.{headOf, formOf, bodyOf, longest}
 use Rattle.conversion.specs.Conversion.{otherForm, bytesIn, sessionIn, badIn, isTooLong, Conversion, conversionOf}
 use Rattle.transcript.specs.Session.{outputOf}
 

@@ -11,8 +11,8 @@ use Rattle.answer.specs.declared.Answer.{Answer}
 use Rattle.answer.specs.declared.Refusal.the-variants.{FieldTooLarge}
 use Rattle.answer.specs.Refused.{isRefused}
 use Rattle.command.specs.declared.Command.{Command}
-use Rattle.command.specs.declared.Form.{Form}
-use Rattle.command.specs.Form.{formOf, bodyOf}
+use Rattle.form.specs.declared.Form.{Form}
+use Rattle.form.specs.Form.{formOf, bodyOf}
 use Rattle.command.specs.Command.{commandOf, sizeAt, isLast, commandsFrom, commandsIn, commandsOf}
 use Rattle.execute.specs.Execute.{obey, perform}
 use Rattle.listing.specs.History.{History, Response, begun, remember, listing, emptying, keeping, backFrom}

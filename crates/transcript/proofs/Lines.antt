@@ -12,7 +12,7 @@ use Rattle.answer.specs.declared.Answer.{Answer}
 use Rattle.answer.specs.declared.Refusal.the-variants.{SessionTooLong}
 use Rattle.answer.specs.Numbers.{refusalNumber, levelNumber, causeNumber}
 use Rattle.command.specs.Command.{commandsFrom, commandsIn}
-use Rattle.command.specs.Form.{bodyOf, longest}
+use Rattle.form.specs.Form.{bodyOf, longest}
 use Rattle.execute.specs.Execute.{perform}
 use Rattle.line.specs.Line.{textOf, lineOf}
 use Rattle.text.specs.Text.{bytes, decimalDigits, decimal, hex}

@@ -9,7 +9,7 @@ use lib.ListN.{length, drop, length-append}
 use Rattle.answer.specs.declared.Answer.{Answer}
 use Rattle.answer.specs.declared.Refusal.the-variants.{NothingToUndo}
 use Rattle.command.specs.declared.Command.{Command}
-use Rattle.command.specs.declared.Form.{Form}
+use Rattle.form.specs.declared.Form.{Form}
 use Rattle.command.specs.Command.{sizeAt, isLast, isBack}
 use Rattle.command.proofs.Sizes.{size-bounds, two-or-more}
 use Rattle.execute.specs.Execute.{obey}

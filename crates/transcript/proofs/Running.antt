@@ -9,9 +9,9 @@ use lib.ListN.{length, drop, length-drop, length-append}
 use lib.Seq.{sets, drop-drop, length-sets}
 use Rattle.answer.specs.declared.Answer.{Answer}
 use Rattle.command.specs.declared.Command.{Command}
-use Rattle.command.specs.declared.Form.{Form}
+use Rattle.form.specs.declared.Form.{Form}
 use Rattle.command.specs.Command.{commandOf, sizeAt, isLast, commandsFrom, commandsIn}
-use Rattle.command.specs.Form.{longest}
+use Rattle.form.specs.Form.{longest}
 use Rattle.command.proofs.Sizes.{size-bounds}
 use Rattle.line.specs.Line.{lineOf}
 use Rattle.execute.specs.Execute.{obey, perform}

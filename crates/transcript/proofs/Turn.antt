@@ -6,9 +6,9 @@ use mathlib.Core.Path.{_≡_, sym, _∙_, ap, subst}
 use native.Mathlib.Omega.{arith}
 use lib.ListN.{length, take, drop}
 use Rattle.command.specs.declared.Command.{Command}
-use Rattle.command.specs.declared.Form.{Form}
+use Rattle.form.specs.declared.Form.{Form}
 use Rattle.command.specs.Command.{commandOf, sizeAt, isLast}
-use Rattle.command.proofs.Place.{part-all}
+use Rattle.form.proofs.Body.{part-all}
 use Rattle.command.proofs.Sizes.{size-bounds}
 use Rattle.line.specs.Line.{lineOf}
 use Rattle.execute.specs.Execute.{obey}

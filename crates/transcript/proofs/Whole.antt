@@ -11,12 +11,12 @@ use lib.ListN.{length, take, drop, length-append}
 use lib.Seq.{sets-eq}
 use Rattle.answer.specs.declared.Answer.{Answer}
 use Rattle.answer.specs.declared.Refusal.the-variants.{SessionTooLong}
-use Rattle.command.specs.declared.Form.{Form}
-use Rattle.command.specs.Form.{headOf, formOf, bodyOf, longest}
+use Rattle.form.specs.declared.Form.{Form}
+use Rattle.form.specs.Form.{headOf, formOf, bodyOf, longest}
 use Rattle.line.specs.Line.{lineOf}
 use Rattle.text.specs.Written.{Written}
 use Rattle.transcript.specs.declared.Output.{Output}
-use Rattle.command.proofs.Place.{body-length, body-here}
+use Rattle.form.proofs.Body.{body-length, body-here}
 use Rattle.transcript.specs.Session.{room, answersIn, linesFrom, outputOf, resultOf, bufferOf}
 
 module _ (s : List ℕ) where

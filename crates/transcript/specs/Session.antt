@@ -7,9 +7,9 @@ use lib.ListN.{length, drop}
 use Rattle.answer.specs.declared.Answer.{Answer}
 use Rattle.answer.specs.declared.Refusal.the-variants.{SessionTooLong}
 use Rattle.transcript.specs.declared.Output.{Output}
-use Rattle.command.specs.declared.Form.{Form}
+use Rattle.form.specs.declared.Form.{Form}
 use Rattle.command.specs.Command.{commandsIn}
-use Rattle.command.specs.Form.{formOf, bodyOf, longest}
+use Rattle.form.specs.Form.{formOf, bodyOf, longest}
 use Rattle.execute.specs.Execute.{perform}
 use Rattle.listing.specs.History.{begun}
 use Rattle.line.specs.Line.{lineOf}

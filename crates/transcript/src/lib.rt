@@ -3,12 +3,12 @@ ghost use mathlib.Core.Path.{_≡_};
 ghost use Prim.Native.Nat.{_≤_};
 ghost use lib.ListN.{length};
 ghost use Rattle.text.specs.Written.{Written};
-ghost use Rattle.command.specs.Form.{longest};
+ghost use Rattle.form.specs.Form.{longest};
 ghost use Rattle.transcript.specs.Session.{linesFrom, answersIn, room, resultOf, bufferOf};
 use answer::Answer;
 use answer::Refusal;
 use command::Command;
-use command::Form;
+use form::Form;
 
 // The bytes that any session's output fits into: `room` of specs/Session.antt.
 pub const ROOM: usize = 65600;
@@ -90,8 +90,8 @@ pub fn session(input: &[u8], out: &mut [u8]) -> Output
     if out.len() < ROOM {
         return Output::Short;
     }
-    let f = command::forms::form_of(input);
-    let start = command::forms::body_start(input);
+    let f = form::form_of(input);
+    let start = form::body_start(input);
     if 4096 < input.len() - start {
         return Output::Bytes(line::line(out, 0, 0, Answer::Refused(Refusal::SessionTooLong)));
     }

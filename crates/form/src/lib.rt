@@ -1,12 +1,16 @@
-// The two forms of a session: which one bytes have, and which commands each has.
+// The two forms of a session: which one bytes have, where its commands begin, which bytes are commands in it, and how wide its
+// sets are.
 ghost use mathlib.Core.Path.{_≡_};
 ghost use Prim.Native.Nat.{_≤_};
 ghost use lib.ListN.{length};
-ghost use Rattle.command.specs.Form.{headOf, formOf};
-ghost use Rattle.command.specs.Command.{isUnknown, narrowest, isTooWide, setOf};
-use crate::Command;
-use crate::Form;
-use answer::Refusal;
+ghost use Rattle.form.specs.Form.{headOf, formOf};
+ghost use Rattle.form.specs.Sets.{isUnknown, narrowest, isTooWide};
+
+// The form of a session's bytes. The short form begins with the byte 10, and its sets have values of 1, 4 or 8 bytes.
+pub enum Form {
+    Long,
+    Short,
+}
 
 // The form of a session.
 pub fn form_of(s: &[u8]) -> Form
@@ -70,24 +74,11 @@ pub fn narrowest(v: u64) -> usize
 }
 
 // The form has a narrower set for the value than one with k bytes.
-fn is_too_wide(f: Form, k: usize, v: u64) -> bool
+pub fn is_too_wide(f: Form, k: usize, v: u64) -> bool
     ensures { λ b. ⌜ b ≡ isTooWide f k v ⌝ }
 {
     match f {
         Form::Long => false,
         Form::Short => narrowest(v) < k,
-    }
-}
-
-// The set command whose value has k bytes.
-pub fn set_of(f: Form, k: usize, field: u8, value: u64) -> Command
-    ensures { λ c. ⌜ c ≡ setOf f k field value ⌝ }
-{
-    if is_too_wide(f, k, value) {
-        return Command::Bad(Refusal::SetTooWide);
-    }
-    Command::Set {
-        field: field,
-        value: value,
     }
 }

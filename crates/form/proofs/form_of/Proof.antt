@@ -1,9 +1,9 @@
--- `command::forms::form_of` meets its contract: a case for each branch.
+-- `form::form_of` meets its contract: a case for each branch.
 use native.Mathlib.Omega.{arith}
 use borrow.Author.Needs.{needs}
-use Rattle.command.proofs.Width.{form-none, form-short, form-long}
-use Rattle.command.proofs.forms.form_of.Statement.{statement}
-use Rattle.command.proofs.forms.form_of.Tie as tie
+use Rattle.form.proofs.Width.{form-none, form-short, form-long}
+use Rattle.form.proofs.form_of.Statement.{statement}
+use Rattle.form.proofs.form_of.Tie as tie
 
 returns : tie.Need-returns
 returns c = form-none (c .before .args .s .now) (c .if1 .taken)

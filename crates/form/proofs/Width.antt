@@ -7,9 +7,9 @@ use native.Mathlib.Omega.{arith}
 use borrow.Author.Tests.{lt-ltb, le-ltb, eq-eqb, ne-eqb}
 use lib.Dec.{eqb}
 use lib.ListN.{length, getD}
-use Rattle.command.specs.declared.Form.{Form}
-use Rattle.command.specs.Form.{headOf, formOf}
-use Rattle.command.specs.Command.{narrowest}
+use Rattle.form.specs.declared.Form.{Form}
+use Rattle.form.specs.Form.{headOf, formOf}
+use Rattle.form.specs.Sets.{narrowest}
 
 pub form-none : (s : List ℕ) → length s ≡ 0 → Form.Long ≡ formOf s
 form-none [] h = refl

@@ -1,8 +1,8 @@
--- `command::forms::set_of` meets its contract: a case for each branch.
+-- `command::set_of` meets its contract: a case for each branch.
 use mathlib.Core.Path.{sym, _∙_}
 use borrow.Author.Needs.{needs}
-use Rattle.command.proofs.forms.set_of.Statement.{statement}
-use Rattle.command.proofs.forms.set_of.Tie as tie
+use Rattle.command.proofs.set_of.Statement.{statement}
+use Rattle.command.proofs.set_of.Tie as tie
 
 returns : tie.Need-returns
 returns c = rw (sym (c .before .is-too-wide .ensures) ∙ c .if1 .taken)

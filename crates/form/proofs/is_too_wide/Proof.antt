@@ -1,7 +1,7 @@
--- `command::forms::is_too_wide` meets its contract.
+-- `form::is_too_wide` meets its contract.
 use borrow.Author.Needs.{needs}
-use Rattle.command.proofs.forms.is_too_wide.Statement.{statement}
-use Rattle.command.proofs.forms.is_too_wide.Tie as tie
+use Rattle.form.proofs.is_too_wide.Statement.{statement}
+use Rattle.form.proofs.is_too_wide.Tie as tie
 
 returns-2 : tie.Need-returns-2
 returns-2 c = rw (c .before .enum-told2 .given .1, c .narrowest .ensures)

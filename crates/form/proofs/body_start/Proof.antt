@@ -1,12 +1,12 @@
--- `command::forms::body_start` meets its contract.
+-- `form::body_start` meets its contract.
 use mathlib.Core.Path.{_∙_, ap}
 use native.Mathlib.Omega.{arith}
 use borrow.Author.Needs.{needs}
 use lib.ListN.{length}
-use Rattle.command.specs.Form.{headOf}
-use Rattle.command.proofs.Width.{head-fits}
-use Rattle.command.proofs.forms.body_start.Statement.{statement}
-use Rattle.command.proofs.forms.body_start.Tie as tie
+use Rattle.form.specs.Form.{headOf}
+use Rattle.form.proofs.Width.{head-fits}
+use Rattle.form.proofs.body_start.Statement.{statement}
+use Rattle.form.proofs.body_start.Tie as tie
 
 returns : tie.Need-returns
 returns c =

@@ -1,8 +1,8 @@
--- `command::forms::is_unknown` meets its contract: a case for each branch.
+-- `form::is_unknown` meets its contract: a case for each branch.
 use borrow.Author.Needs.{needs}
 use borrow.Author.Tests.{eq-eqb, ne-eqb}
-use Rattle.command.proofs.forms.is_unknown.Statement.{statement}
-use Rattle.command.proofs.forms.is_unknown.Tie as tie
+use Rattle.form.proofs.is_unknown.Statement.{statement}
+use Rattle.form.proofs.is_unknown.Tie as tie
 
 returns : tie.Need-returns
 returns c = rw (c .before .enum-told2 .given .1, eq-eqb _ _ (c .if1 .taken))

@@ -1,9 +1,9 @@
--- `command::forms::narrowest` meets its contract: a case for each branch.
+-- `form::narrowest` meets its contract: a case for each branch.
 use mathlib.Core.Path.{sym}
 use native.Mathlib.Omega.{arith}
-use Rattle.command.proofs.Width.{narrowest-1, narrowest-4, narrowest-8}
-use Rattle.command.proofs.forms.narrowest.Statement.{statement}
-use Rattle.command.proofs.forms.narrowest.Tie as tie
+use Rattle.form.proofs.Width.{narrowest-1, narrowest-4, narrowest-8}
+use Rattle.form.proofs.narrowest.Statement.{statement}
+use Rattle.form.proofs.narrowest.Tie as tie
 
 returns : tie.Need-returns
 returns c = sym (narrowest-1 (c .before .args .v) (c .if1 .taken))

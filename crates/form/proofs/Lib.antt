@@ -1,0 +1,3 @@
+-- The laws of the crate `form`.
+pub mod Width
+pub mod Body

@@ -1,0 +1,3 @@
+-- The definitions of the crate `form`.
+pub mod Form
+pub mod Sets
