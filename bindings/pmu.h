@@ -30,8 +30,8 @@ extern "C" {
 
 size_t pmu_room(void);
 
-/* Runs the session in `input` from the fresh record, and writes its lines to the front of `out`, in the form that section L of
- * docs/MODEL.md gives (a trap with its level, syndrome and cause, for instance); there is no byte 0 behind them. Returns how
+/* Runs the session in `input` from the fresh record, and writes its lines to the front of `out`, as section L of docs/MODEL.md
+ * has them (a trap with its level, syndrome and cause, for instance); there is no byte 0 behind them. Returns how
  * many bytes they have, at least 1, or 0 where `out` has fewer than PMU_ROOM bytes: it is then left alone. Neither pointer is
  * null, even where its length is 0; the two do not overlap. */
 size_t pmu_session(const uint8_t *input, size_t input_len, uint8_t *out, size_t out_len);

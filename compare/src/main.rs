@@ -1,7 +1,7 @@
 //! Random sessions through the proved model, by its static library, and
 //! through the reference: `compare SEED COUNT`. Each is also converted by both
 //! to its other form, which must print the same lines and be converted back
-//! (MODEL Z5 to Z8). Prints the seed, and the first session on which the two
+//! (MODEL Z5 to Z7). Prints the seed, and the first session on which the two
 //! differ, in the notation of docs/SESSIONS.md.
 
 use pmu::NotConverted;

@@ -4,3 +4,4 @@ pub mod Operands
 pub mod Sizes
 pub mod Fuel
 pub mod Place
+pub mod Refusals

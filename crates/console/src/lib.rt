@@ -1,5 +1,5 @@
 // The streams of a program: a session's bytes read, its lines written to standard output, and on standard error what went wrong
-// with either. The exit status of a program of Rattle is always 0.
+// with either. The exit status of a program of Rattle is 0 all the same.
 ghost use Rattle.console.specs.Input.{Fits};
 use transcript::Output;
 

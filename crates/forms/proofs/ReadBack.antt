@@ -113,7 +113,7 @@ module _ (c : ℕ) (s : List ℕ) (bytes : AreBytes s) (whole : operandBytes c �
       set-back 4 (operand s 0 1) (operand s 1 4) (exact-4 (operand s 1 4) small) h
       ∙ both Form.Short c s bytes whole 0x12 1 4 refl e
 
--- a known byte that is none of the others is that of the end command
+-- a known byte that is neither 11 nor 12 is 08 or lower
 low : (f : Form) (c : ℕ) → isUnknown f c ≡ false → eqb c 0x11 ≡ false → eqb c 0x12 ≡ false → ltb 0x08 c ≡ false
 low Form.Long c k p q = k
 low Form.Short c k p q = simp (p, q) at k

@@ -1,4 +1,4 @@
--- Whole sessions: what it says of a session that its conversion gives one, and how that one is read.
+-- Whole sessions that were written: their form and commands, how long they are, and that they are bytes.
 use Prim.Native.Nat.{ℕ, _+_, _<_, _≤_}
 use mathlib.Core.Bool.{Bool, true, false, cond}
 use mathlib.Core.List.{List, [], _∷_, _++_, append-nil}

@@ -5,15 +5,15 @@ use mathlib.Core.Bool.{false}
 use mathlib.Core.List.{List, [], _∷_}
 use mathlib.Core.Path.{_≡_, refl, ap}
 use native.Mathlib.Omega.{arith}
-use lib.ListN.{length, take, drop}
+use lib.ListN.{take}
 use Rattle.bits.proofs.Choice.{either}
 use Rattle.answer.specs.declared.Answer.{Answer}
+use Rattle.answer.specs.declared.Refusal.{Refusal}
 use Rattle.answer.specs.declared.Refusal.the-variants.{FieldTooLarge}
 use Rattle.answer.specs.Refused.{isRefused}
 use Rattle.command.specs.declared.Command.{Command}
-use Rattle.form.specs.declared.Form.{Form}
-use Rattle.form.specs.Form.{formOf, bodyOf}
-use Rattle.command.specs.Command.{commandOf, sizeAt, isLast, commandsFrom, commandsIn, commandsOf}
+use Rattle.command.specs.Command.{commandsOf}
+use Rattle.command.proofs.Refusals.{Met, AllMet, all-met}
 use Rattle.execute.specs.Execute.{obey, perform}
 use Rattle.listing.specs.History.{History, Response, begun, remember, listing, emptying, keeping, backFrom}
 use Rattle.fields.specs.Largest.{largest}
@@ -60,23 +60,12 @@ take-fits zero h f = tt
 take-fits (suc n) [] f = tt
 take-fits (suc n) (m ∷ h) f = (f .0, take-fits n h (f .1))
 
--- bytes are never refused with 10
-abbrev Sparing : Command → Type 0
-Sparing Command.End = Unit {0}
-Sparing (Command.Set f v) = Unit {0}
-Sparing (Command.Level l) = Unit {0}
-Sparing (Command.Access w x) = Unit {0}
-Sparing (Command.Read o) = Unit {0}
-Sparing (Command.Write o x) = Unit {0}
-Sparing (Command.Tick p) = Unit {0}
-Sparing Command.Back = Unit {0}
-Sparing (Command.Member d) = Unit {0}
-Sparing (Command.Bad n) = isRefusal10 (Answer.Refused n) ≡ false
+-- a command is not refused with 10 for its bytes
+abbrev Spares : Refusal → Type 0
+Spares r = isRefusal10 (Answer.Refused r) ≡ false
 
-front-spares : (f : Form) (s : List ℕ) → Sparing (commandOf f s)
-unfolding commandOf
-front-spares f [] = refl
-front-spares f (c ∷ s) = search (either Sparing) depth 16
+abbrev Sparing : Command → Type 0
+Sparing = Met Spares
 
 -- record and list after a command, and its answer
 record FitsOn (o : Response) : Type 0 where
@@ -122,23 +111,9 @@ module _ (k : History) (m : Fits (k .machine)) (h : AllFit (k .earlier)) where
   obey-fits (Command.Member d) e = listing-fits _ (member-bounded (k .machine) m d)
   obey-fits (Command.Bad n) e = keeping-fits _ (says-bounded (Answer.Refused n) (k .machine) e m)
 
--- no command of a session is refused with 10 for its bytes
-abbrev AllSpare : List Command → Type 0
-AllSpare [] = Unit {0}
-AllSpare (c ∷ cs) = Sparing c × AllSpare cs
-
-commands-spare : (f : Form) (n : ℕ) (s : List ℕ) → AllSpare (commandsFrom f n s)
-unfolding commandsFrom
-commands-spare f zero s = tt
-commands-spare f (suc n) s =
-    let next = drop (sizeAt s) s in (
-      front-spares f s,
-      either AllSpare (isLast (commandOf f s)) [] (commandsFrom f n next) tt (λ e. commands-spare f n next),
-    )
-
 -- the answers of such commands, from a record and list on that do not meet refusal 10
 answers-fit :
-    (cs : List Command) (k : History) → AllSpare cs → Fits (k .machine) → AllFit (k .earlier)
+    (cs : List Command) (k : History) → AllMet Spares cs → Fits (k .machine) → AllFit (k .earlier)
     → all NotRefusal10 (perform cs k .answers)
 unfolding perform
 answers-fit [] k f m h = tt
@@ -149,5 +124,5 @@ answers-fit (c ∷ cs) k f m h =
 
 -- whatever the bytes, no answer is refusal 10
 pub never-refusal-10 : (s : List ℕ) → all NotRefusal10 (answersOf s)
-unfolding answersIn commandsIn tooLarge viewOf largest
-never-refusal-10 s = answers-fit (commandsOf s) begun (commands-spare (formOf s) (suc (length (bodyOf s))) (bodyOf s)) refl tt
+unfolding answersIn tooLarge viewOf largest
+never-refusal-10 s = answers-fit (commandsOf s) begun (all-met Spares refl refl refl s) refl tt

@@ -20,7 +20,7 @@ fn encoded(form: Form, command: Command) -> Vec<u8> {
     }
 }
 
-/// MODEL Z4: a session that reads through to its end, in a form.
+/// MODEL Z4: the commands of a session, in a form.
 fn in_form(form: Form, bytes: &[u8]) -> Vec<u8> {
     let front = if form == Form::Short { vec![0x10] } else { Vec::new() };
     let list = commands(bytes).into_iter().map(|command| encoded(form, command));
