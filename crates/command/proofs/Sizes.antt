@@ -4,15 +4,14 @@ use mathlib.Core.Bool.{Bool, true, false, cond, true≢false}
 use mathlib.Core.List.{List, [], _∷_}
 use mathlib.Core.Path.{_≡_, refl}
 use native.Mathlib.Omega.{arith}
-use borrow.Author.Tests.{leb-true, ltb-false}
-use lib.Dec.{leb, ltb}
+use borrow.Author.Tests.{leb-true}
+use lib.Dec.{leb}
 use lib.ListN.{length, getD}
-use Rattle.answer.specs.declared.Refusal.the-variants.{UnknownCommand, Truncated}
 use Rattle.command.specs.declared.Command.{Command}
 use Rattle.form.specs.declared.Form.{Form}
 use Rattle.bits.proofs.Choice.{either}
+use Rattle.command.proofs.Front.{front-cases}
 use Rattle.command.specs.Command.{operandBytes, commandWith, commandOf, sizeAt, isLast, isBack}
-use Rattle.form.specs.Sets.{isUnknown}
 
 pub size-none : (s : List ℕ) → length s ≡ 0 → sizeAt s ≡ 0
 size-none [] h = refl
@@ -54,27 +53,16 @@ with-operands f c s = search (either-operands, operands, end-operands, back-oper
 pub size-bounds : (f : Form) (s : List ℕ) → isLast (commandOf f s) ≡ false → (1 ≤ sizeAt s) × (sizeAt s ≤ length s)
 unfolding commandOf
 size-bounds f [] e = absurd (true≢false e)
-size-bounds f (c ∷ s) e = go (isUnknown f c) (ltb (length s) (operandBytes c)) refl e
-  where
-    go :
-        (a b : Bool) → ltb (length s) (operandBytes c) ≡ b
-        → isLast (cond a (Command.Bad UnknownCommand) (cond b (Command.Bad Truncated) (commandWith f c s))) ≡ false
-        → (1 ≤ 1 + operandBytes c) × (1 + operandBytes c ≤ suc (length s))
-    go true b q e = absurd (true≢false e)
-    go false true q e = absurd (true≢false e)
-    go false false q e = (omega arith, omega (arith, ltb-false (length s) (operandBytes c) q))
+size-bounds f (c ∷ s) e =
+    front-cases (λ d. isLast d ≡ false → (1 ≤ 1 + operandBytes c) × (1 + operandBytes c ≤ suc (length s))) f c s
+    (λ e. absurd (true≢false e)) (λ e. absurd (true≢false e)) (λ k whole e. (omega arith, omega (arith, whole))) e
 
 -- and no step back
-pub two-or-more : (f : Form) (s : List ℕ) → isLast (commandOf f s) ≡ false → isBack (commandOf f s) ≡ false → 2 ≤ sizeAt s
+pub two-or-more :
+    (f : Form) (s : List ℕ) → isLast (commandOf f s) ≡ false → isBack (commandOf f s) ≡ false → 2 ≤ sizeAt s
 unfolding commandOf HasOperands
 two-or-more f [] e k = absurd (true≢false e)
-two-or-more f (c ∷ s) e k = go (isUnknown f c) (ltb (length s) (operandBytes c)) e k
-  where
-    go :
-        (a b : Bool)
-        → isLast (cond a (Command.Bad UnknownCommand) (cond b (Command.Bad Truncated) (commandWith f c s))) ≡ false
-        → isBack (cond a (Command.Bad UnknownCommand) (cond b (Command.Bad Truncated) (commandWith f c s))) ≡ false
-        → 2 ≤ 1 + operandBytes c
-    go true b e k = absurd (true≢false e)
-    go false true e k = absurd (true≢false e)
-    go false false e k = omega (arith, with-operands f c s e k)
+two-or-more f (c ∷ s) e k =
+    front-cases (λ d. isLast d ≡ false → isBack d ≡ false → 2 ≤ 1 + operandBytes c) f c s
+    (λ e k. absurd (true≢false e)) (λ e k. absurd (true≢false e))
+    (λ known whole e k. omega (arith, with-operands f c s e k)) e k

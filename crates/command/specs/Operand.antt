@@ -16,3 +16,7 @@ operand s at count = little (take count (drop at s))
 abbrev pub littleBytes : ℕ → ℕ → List ℕ
 littleBytes zero n = []
 littleBytes (suc k) n = n % 256 ∷ littleBytes k (n / 256)
+
+-- MODEL S7: v:n of the notation, a value of 8 bytes
+abbrev pub v : ℕ → List ℕ
+v n = littleBytes 8 n

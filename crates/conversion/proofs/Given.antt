@@ -77,6 +77,10 @@ pub none-both : (a b : List Refusal) → a ++ b ≡ [] → (a ≡ []) × (b ≡ 
 none-both [] b h = (refl, h)
 none-both (r ∷ a) b h = let z : _≡_ {A = ℕ} (suc (length (a ++ b))) 0 = ap length h in let n : ⊥ = omega arith in absurd n
 
+-- a refusal that was met is not none
+pub never : {A : Type 0} {r : Refusal} → r ∷ [] ≡ [] → A
+never e = let z : _≡_ {A = ℕ} 1 0 = ap length e in let n : ⊥ = omega arith in absurd n
+
 -- a command has a byte, unless reading it met a refusal
 command-some : (g : Form) (c : Command) → badOf c ≡ [] → 1 ≤ length (bytesOf g c)
 unfolding bytesOf
@@ -89,7 +93,7 @@ command-some g (Command.Write o x) h = omega arith
 command-some g (Command.Tick p) h = omega arith
 command-some g Command.Back h = omega arith
 command-some g (Command.Member d) h = omega arith
-command-some g (Command.Bad r) h = let z : _≡_ {A = ℕ} 1 0 = ap length h in let n : ⊥ = omega arith in absurd n
+command-some g (Command.Bad r) h = never h
 
 commands-some : (g f : Form) (s : List ℕ) → badIn (commandsIn f s) ≡ [] → 1 ≤ length (bytesIn g (commandsIn f s))
 unfolding badIn bytesIn

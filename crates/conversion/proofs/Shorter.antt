@@ -5,13 +5,13 @@ use mathlib.Core.List.{List, [], _∷_, _++_}
 use mathlib.Core.Path.{_≡_, refl}
 use native.Mathlib.Omega.{arith}
 use borrow.Author.Tests.{leb-true, ltb-false, ne-eqb}
-use lib.Dec.{leb, ltb}
+use lib.Dec.{leb}
 use lib.ListN.{length, drop, length-drop, length-append}
-use Rattle.answer.specs.declared.Refusal.the-variants.{UnknownCommand, Truncated}
 use Rattle.command.specs.declared.Command.{Command}
 use Rattle.form.specs.declared.Form.{Form}
 use Rattle.command.specs.Command.{operandBytes, commandWith, commandOf, sizeAt, isLast, commandsFrom, commandsIn}
 use Rattle.form.specs.Sets.{isUnknown}
+use Rattle.command.proofs.Front.{front-cases}
 use Rattle.command.proofs.Sizes.{size-bounds}
 use Rattle.encode.specs.Encode.{bytesOf, valueBytes}
 use Rattle.encode.proofs.Bytes.{length-little-bytes, few-value-bytes}
@@ -48,20 +48,11 @@ front-within :
     × (length (bytesOf Form.Short (commandOf Form.Long s)) ≤ length s)
 unfolding commandOf bytesOf Within
 front-within [] = (omega arith, omega arith)
-front-within (c ∷ s) = go (isUnknown Form.Long c) (ltb (length s) (operandBytes c)) refl refl
-  where
-    reading : Bool → Bool → Command
-    reading a b = cond a (Command.Bad UnknownCommand) (cond b (Command.Bad Truncated) (commandWith Form.Long c s))
-
-    go :
-        (a b : Bool) → isUnknown Form.Long c ≡ a → ltb (length s) (operandBytes c) ≡ b
-        → (length (bytesOf Form.Short (reading a b)) ≤ 1 + operandBytes c)
-        × (length (bytesOf Form.Short (reading a b)) ≤ suc (length s))
-    go true b p q = (omega arith, omega arith)
-    go false true p q = (omega arith, omega arith)
-    go false false p q =
-        let here = with-within c s p in
-        (here, omega (arith, here, ltb-false (length s) (operandBytes c) q))
+front-within (c ∷ s) =
+    front-cases
+    (λ d. (length (bytesOf Form.Short d) ≤ 1 + operandBytes c) × (length (bytesOf Form.Short d) ≤ suc (length s)))
+    Form.Long c s (omega arith, omega arith) (omega arith, omega arith)
+    (λ known whole. let here = with-within c s known in (here, omega (arith, here, whole)))
 
 from-within : (n : ℕ) (s : List ℕ) → length (bytesIn Form.Short (commandsFrom Form.Long n s)) ≤ length s
 unfolding commandsFrom bytesIn

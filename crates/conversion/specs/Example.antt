@@ -9,12 +9,8 @@ use Rattle.answer.specs.declared.Refusal.the-variants.{
   SetTooWide,
   LongFormTooLong,
 }
-use Rattle.command.specs.Operand.{littleBytes}
+use Rattle.command.specs.Operand.{v}
 use Rattle.conversion.specs.Conversion.{Conversion}
-
--- MODEL S7: v:n of the notation, a value of 8 bytes
-abbrev v : ℕ → List ℕ
-v n = littleBytes 8 n
 
 -- MODEL S1: so many times the same bytes
 abbrev times : ℕ → List ℕ → List ℕ

@@ -1,7 +1,7 @@
 -- Laws of the bytes of numbers and of commands: how many there are, and one stored a turn.
 use Prim.Native.Nat.{ℕ, zero, suc, _+_, _-_, _/_, _%_, _<_, _≤_}
 use mathlib.Core.List.{List, _∷_, _++_}
-use mathlib.Core.Path.{_≡_, refl, _∙_, ap, subst}
+use mathlib.Core.Path.{_≡_, refl, sym, _∙_, ap, subst}
 use native.Mathlib.Numerals.{add-one}
 use native.Mathlib.Omega.{arith}
 use borrow.Author.Tests.{leb-true}
@@ -69,6 +69,10 @@ few-bytes f (Command.Tick p) = omega arith
 few-bytes f Command.Back = omega arith
 few-bytes f (Command.Member d) = omega arith
 few-bytes f (Command.Bad r) = omega arith
+
+-- bytes of a command, which is the one that was asked for
+pub laid-as : (f : Form) {b : List ℕ} {c named : Command} → b ≡ bytesOf f named → c ≡ named → b ≡ bytesOf f c
+laid-as f written e = written ∙ sym (ap (bytesOf f) e)
 
 -- a set laid out by its parts
 pub set-laid :

@@ -2,21 +2,22 @@
 use Prim.Native.Nat.{ℕ, _+_, _^_, _≤_}
 use mathlib.Core.Bool.{Bool, true, false, cond}
 use mathlib.Core.List.{List, [], _∷_}
-use mathlib.Core.Path.{_≡_, refl}
+use mathlib.Core.Path.{_≡_}
 use native.Mathlib.Omega.{arith}
-use borrow.Author.Tests.{ltb-false}
-use lib.Dec.{ltb, eqb}
+use lib.Dec.{eqb}
 use lib.ListN.{length}
-use Rattle.answer.specs.declared.Refusal.the-variants.{UnknownCommand, Truncated, SetTooWide}
+use Rattle.answer.specs.declared.Refusal.the-variants.{SetTooWide}
 use Rattle.command.specs.declared.Command.{Command}
 use Rattle.form.specs.declared.Form.{Form}
 use Rattle.command.specs.Command.{operandBytes, setOf, commandWith, commandOf}
-use Rattle.form.specs.Sets.{isUnknown, isTooWide}
+use Rattle.form.specs.Sets.{isTooWide}
 use Rattle.command.specs.Operand.{operand}
+use Rattle.command.proofs.Front.{front-cases}
 use Rattle.conversion.specs.Conversion.{badOf}
+use Rattle.conversion.proofs.Given.{never}
 use Rattle.forms.specs.Claims.{AreBytes}
 use Rattle.forms.proofs.Numbers.{operand-bound}
-use Rattle.forms.proofs.ReadBack.{never, choose}
+use Rattle.forms.proofs.ReadBack.{choose}
 use Rattle.forms.proofs.Written.{Fits}
 
 module _ (s : List ℕ) (bytes : AreBytes s) where
@@ -68,12 +69,5 @@ module _ (s : List ℕ) (bytes : AreBytes s) where
 pub front-fits : (f : Form) (s : List ℕ) → AreBytes s → badOf (commandOf f s) ≡ [] → Fits (commandOf f s)
 unfolding commandOf Bounded
 front-fits f [] bytes h = never h
-front-fits f (c ∷ s) bytes h = go (isUnknown f c) (ltb (length s) (operandBytes c)) refl h
-  where
-    reading : Bool → Bool → Command
-    reading a b = cond a (Command.Bad UnknownCommand) (cond b (Command.Bad Truncated) (commandWith f c s))
-
-    go : (a b : Bool) → ltb (length s) (operandBytes c) ≡ b → badOf (reading a b) ≡ [] → Fits (reading a b)
-    go true b q h = never h
-    go false true q h = never h
-    go false false q h = with-bounded s (bytes .1) f c (ltb-false (length s) (operandBytes c) q) h
+front-fits f (c ∷ s) bytes h =
+    front-cases (λ d. badOf d ≡ [] → Fits d) f c s never never (λ known whole. with-bounded s (bytes .1) f c whole) h

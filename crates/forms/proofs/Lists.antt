@@ -12,11 +12,11 @@ use Rattle.command.proofs.Fuel.{commands-last, commands-on}
 use Rattle.command.proofs.Sizes.{size-bounds}
 use Rattle.encode.specs.Encode.{bytesOf}
 use Rattle.conversion.specs.Conversion.{bytesIn, badOf, badIn}
-use Rattle.conversion.proofs.Given.{none-both}
+use Rattle.conversion.proofs.Given.{never, none-both}
 use Rattle.forms.specs.Claims.{AreBytes, readFrom}
 use Rattle.forms.proofs.Bounded.{front-fits}
 use Rattle.forms.proofs.Numbers.{drop-bytes, drop-front}
-use Rattle.forms.proofs.ReadBack.{never, front-back}
+use Rattle.forms.proofs.ReadBack.{front-back}
 use Rattle.forms.proofs.Written.{Fits, written-front, written-size}
 
 -- commands up to the end command, which is the last, and none that is none

@@ -7,8 +7,7 @@ use native.Mathlib.Omega.{arith}
 use borrow.Author.Tests.{ltb-false, eqb-true, eqb-false}
 use lib.Dec.{ltb, eqb}
 use lib.ListN.{length, take}
-use Rattle.answer.specs.declared.Refusal.{Refusal}
-use Rattle.answer.specs.declared.Refusal.the-variants.{UnknownCommand, Truncated, SetTooWide}
+use Rattle.answer.specs.declared.Refusal.the-variants.{SetTooWide}
 use Rattle.command.specs.declared.Command.{Command}
 use Rattle.form.specs.declared.Form.{Form}
 use Rattle.command.specs.Command.{operandBytes, setOf, commandWith, commandOf, sizeAt}
@@ -16,13 +15,11 @@ use Rattle.form.specs.Sets.{isUnknown, narrowest}
 use Rattle.command.specs.Operand.{operand, littleBytes}
 use Rattle.form.proofs.Width.{narrowest-1}
 use Rattle.encode.specs.Encode.{setByte, bytesOf}
+use Rattle.command.proofs.Front.{front-cases}
 use Rattle.conversion.specs.Conversion.{badOf}
+use Rattle.conversion.proofs.Given.{never}
 use Rattle.forms.specs.Claims.{AreBytes}
 use Rattle.forms.proofs.Numbers.{operand-bound, operands-back}
-
--- the bytes are no command for r
-pub never : {A : Type 0} {r : Refusal} → r ∷ [] ≡ [] → A
-never e = let z : _≡_ {A = ℕ} 1 0 = ap length e in let n : ⊥ = omega arith in absurd n
 
 -- the width of a value that is held by so many bytes, and by no fewer
 abbrev width : Bool → Bool → ℕ
@@ -166,14 +163,6 @@ unfolding commandOf Back
 front-back f [] bytes h = never h
 front-back f (c ∷ s) bytes h =
     let one : 1 + operandBytes c ≡ suc (operandBytes c) = omega arith in
-    go (isUnknown f c) (ltb (length s) (operandBytes c)) refl refl h ∙ sym (ap (λ n. take n (c ∷ s)) one)
-  where
-    reading : Bool → Bool → Command
-    reading a b = cond a (Command.Bad UnknownCommand) (cond b (Command.Bad Truncated) (commandWith f c s))
-
-    go :
-        (a b : Bool) → isUnknown f c ≡ a → ltb (length s) (operandBytes c) ≡ b → badOf (reading a b) ≡ []
-        → bytesOf f (reading a b) ≡ c ∷ take (operandBytes c) s
-    go true b p q h = never h
-    go false true p q h = never h
-    go false false p q h = with-back f c s (bytes .1) (ltb-false (length s) (operandBytes c) q) p h
+    front-cases (λ d. badOf d ≡ [] → bytesOf f d ≡ c ∷ take (operandBytes c) s) f c s never never
+    (λ known whole. with-back f c s (bytes .1) whole known) h
+    ∙ sym (ap (λ n. take n (c ∷ s)) one)

@@ -3,11 +3,7 @@ use Prim.Native.Nat.{ℕ}
 use Prim.Native.String.{String}
 use mathlib.Core.List.{List, [], _∷_, _++_}
 use lib.ListN.{replicate}
-use Rattle.command.specs.Operand.{littleBytes}
-
--- MODEL S7: v:n of the notation, a value of 8 bytes
-abbrev pub v : ℕ → List ℕ
-v n = littleBytes 8 n
+use Rattle.command.specs.Operand.{v}
 
 -- MODEL S8: a session's bytes, and its whole output
 pub record Example : Type 0 where

@@ -2,15 +2,13 @@
 use mathlib.Core.Path.{sym, _∙_, ap}
 use borrow.Author.Needs.{needs}
 use Rattle.encode.specs.Encode.{bytesOf}
-use Rattle.encode.proofs.Bytes.{set-laid}
+use Rattle.encode.proofs.Bytes.{laid-as, set-laid}
 use Rattle.encode.proofs.layout_of.Statement.{statement}
 use Rattle.encode.proofs.layout_of.Tie as tie
 
 returns : tie.Need-returns
 unfolding bytesOf
-returns c =
-    let at-start = c .before .before .before in
-    c .with-operands .ensures ∙ sym (ap (bytesOf (at-start .args .f)) (c .before .enum-told .given .1))
+returns c = laid-as (c .before .before .before .args .f) (c .with-operands .ensures) (c .before .enum-told .given .1)
 
 returns-2 : tie.Need-returns-2
 returns-2 c =
@@ -25,51 +23,31 @@ returns-2 c =
 
 returns-3 : tie.Need-returns-3
 unfolding bytesOf
-returns-3 c =
-    let at-c2 = c .before .before in
-    let at-start = at-c2 .before .before in
-    c .with-operands3 .ensures ∙ sym (ap (bytesOf (at-start .args .f)) (at-c2 .c2 .given .1))
+returns-3 c = laid-as (c .before .before .before .before .args .f) (c .with-operands3 .ensures) (c .before .before .c2 .given .1)
 
 returns-4 : tie.Need-returns-4
 unfolding bytesOf
-returns-4 c =
-    let at-c3 = c .before .before in
-    let at-start = at-c3 .before .before in
-    c .with-operands4 .ensures ∙ sym (ap (bytesOf (at-start .args .f)) (at-c3 .c3 .given .1))
+returns-4 c = laid-as (c .before .before .before .before .args .f) (c .with-operands4 .ensures) (c .before .before .c3 .given .1)
 
 returns-5 : tie.Need-returns-5
 unfolding bytesOf
-returns-5 c =
-    let at-c4 = c .before .before in
-    let at-start = at-c4 .before .before in
-    c .with-operands5 .ensures ∙ sym (ap (bytesOf (at-start .args .f)) (at-c4 .c4 .given .1))
+returns-5 c = laid-as (c .before .before .before .before .args .f) (c .with-operands5 .ensures) (c .before .before .c4 .given .1)
 
 returns-6 : tie.Need-returns-6
 unfolding bytesOf
-returns-6 c =
-    let at-c5 = c .before .before in
-    let at-start = at-c5 .before .before in
-    c .with-operands6 .ensures ∙ sym (ap (bytesOf (at-start .args .f)) (at-c5 .c5 .given .1))
+returns-6 c = laid-as (c .before .before .before .before .args .f) (c .with-operands6 .ensures) (c .before .before .c5 .given .1)
 
 returns-7 : tie.Need-returns-7
 unfolding bytesOf
-returns-7 c =
-    let at-c6 = c .before .before in
-    let at-start = at-c6 .before .before in
-    c .with-operands7 .ensures ∙ sym (ap (bytesOf (at-start .args .f)) (at-c6 .c6 .given .1))
+returns-7 c = laid-as (c .before .before .before .before .args .f) (c .with-operands7 .ensures) (c .before .before .c6 .given .1)
 
 returns-8 : tie.Need-returns-8
 unfolding bytesOf
-returns-8 c =
-    let at-start = c .before .before .before in
-    c .with-operands8 .ensures ∙ sym (ap (bytesOf (at-start .args .f)) (c .before .enum-told2 .given .1))
+returns-8 c = laid-as (c .before .before .before .args .f) (c .with-operands8 .ensures) (c .before .enum-told2 .given .1)
 
 returns-9 : tie.Need-returns-9
 unfolding bytesOf
-returns-9 c =
-    let at-c7 = c .before .before in
-    let at-start = at-c7 .before .before in
-    c .with-operands9 .ensures ∙ sym (ap (bytesOf (at-start .args .f)) (at-c7 .c7 .given .1))
+returns-9 c = laid-as (c .before .before .before .before .args .f) (c .with-operands9 .ensures) (c .before .before .c7 .given .1)
 
 returns-10 : tie.Need-returns-10
 unfolding bytesOf
