@@ -2,7 +2,7 @@
 //! through the reference: `compare SEED COUNT`. Each is also converted by both
 //! to its other form, which must print the same lines and be converted back
 //! (MODEL Z5 to Z7). Prints the seed, and the first session on which the two
-//! differ, in the notation of docs/SESSIONS.md.
+//! differ, as bytes in text (docs/SESSIONS.md).
 
 use pmu::NotConverted;
 use reference::{convert, generate, notation, session};

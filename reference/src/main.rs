@@ -1,5 +1,5 @@
 //! A reference program for the model of docs/MODEL.md. It runs sessions, turns them
-//! into their other form, turns the notation of docs/SESSIONS.md into bytes and back,
+//! into their other form, turns bytes in text (docs/SESSIONS.md) into bytes and back,
 //! makes pseudo-random and directed sessions, and prints hashes of their outputs.
 
 use reference::{convert, directed, generate, notation, session};

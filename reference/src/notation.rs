@@ -1,4 +1,4 @@
-//! The notation of docs/SESSIONS.md: hexadecimal bytes, and `v:n` for a value
+//! Sessions as bytes in text (docs/SESSIONS.md): hexadecimal, and `v:n` for a value
 //! of 8 bytes, little-endian, n decimal or 0x and hexadecimal. `#` starts a
 //! comment. Assembling what was disassembled gives the same bytes.
 

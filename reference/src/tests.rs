@@ -1,5 +1,5 @@
 //! Tests: the worked session (MODEL S8), the worked examples (MODEL P1 to P11)
-//! through sessions, the limit, the round trip of the notation, the examples,
+//! through sessions, the limit, the round trip of the notation,
 //! the orders of traps written a second time as the tables that they are (MODEL
 //! T1 to T6 and I1 to I6) with the causes of traps, the overflow flags against
 //! sums of 128 bits, and the counters that are off. Causes have a file of their
@@ -178,50 +178,6 @@ fn every_field_has_a_name() {
         let unknown = text.contains("no such field");
         assert_eq!(unknown, Machine::largest(field).is_none(), "{text}");
     }
-}
-
-/// The answers an example demands: `#>`, or `ok` for commands without it.
-fn demanded(text: &str) -> String {
-    let mut output = String::new();
-    let mut position = 0;
-    for line in text.lines() {
-        let code = line.split('#').next().unwrap_or("");
-        let answer = match line.split_once("#>") {
-            Some((_, answer)) => answer.trim(),
-            None if !code.trim().is_empty() => "ok",
-            None => continue,
-        };
-        if answer != "nothing" {
-            position += 1;
-            output.push_str(&format!("{position} {answer}\n"));
-        }
-    }
-    output
-}
-
-/// The examples and their names. They stand beside the crate, or where
-/// REFERENCE_EXAMPLES says.
-fn example_texts() -> Vec<(String, String)> {
-    let beside = concat!(env!("CARGO_MANIFEST_DIR"), "/../examples");
-    let directory = std::env::var("REFERENCE_EXAMPLES").unwrap_or(beside.to_string());
-    let mut list = Vec::new();
-    for entry in std::fs::read_dir(&directory).expect("examples") {
-        let path = entry.expect("entry").path();
-        if path.extension().map_or(false, |e| e == "txt") {
-            let text = std::fs::read_to_string(&path).expect("text");
-            list.push((path.display().to_string(), text));
-        }
-    }
-    list
-}
-
-#[test]
-fn examples() {
-    let list = example_texts();
-    for (name, text) in &list {
-        assert_eq!(run_text(text), demanded(text), "{name}");
-    }
-    assert!(list.len() >= 30, "only {} examples", list.len());
 }
 
 /// A consistent machine with random fields.

@@ -214,14 +214,6 @@ fn directed_sessions_in_the_other_form() {
     assert_eq!(seen.keys().copied().collect::<BTreeSet<_>>(), wanted, "{seen:?}");
 }
 
-/// MODEL Z4 to Z8 for every example.
-#[test]
-fn examples_in_the_other_form() {
-    let converted = |text: &str| check(&assemble(text).expect("notation")).is_none();
-    let count = example_texts().iter().filter(|(_, text)| converted(text)).count();
-    assert!(count >= 20, "only {count} examples");
-}
-
 /// The directed sessions at the border: their names say how long the long form is.
 #[test]
 fn directed_sessions_at_the_border() {

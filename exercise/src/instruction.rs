@@ -1,0 +1,147 @@
+//! MODEL W1 to W6, W8 and W12: instructions as a text has them, and their words.
+
+use crate::fault::{Fault, Problem};
+use crate::line::{Cursor, Token};
+use crate::names::{Found, Names};
+use crate::number::{digits, hexadecimal, mask, number};
+use crate::tables::registers::Place;
+
+/// A word that moves a system register.
+struct Move {
+    read: bool,
+    place: Place,
+    rt: u8,
+}
+
+/// MODEL W1: what the bits that every such word has are.
+const FIXED: u32 = 0x354 << 22 | 1 << 20;
+const FIXED_BITS: u32 = 0x3FF << 22 | 1 << 20;
+
+impl Move {
+    fn word(&self) -> u32 {
+        let p = self.place;
+        let parts =
+            [(p.op0 - 2, 19), (p.op1, 16), (p.crn, 12), (p.crm, 8), (p.op2, 5), (self.rt, 0)];
+        let placed = parts.iter().fold(0, |sum, &(part, low)| sum | u32::from(part) << low);
+        FIXED | u32::from(self.read) << 21 | placed
+    }
+
+    fn new(word: u32) -> Option<Move> {
+        if word & FIXED_BITS != FIXED {
+            return None;
+        }
+        let part = |low: u32, bits: u32| (word >> low & ((1 << bits) - 1)) as u8;
+        let op0 = 2 + part(19, 1);
+        let place =
+            Place { op0, op1: part(16, 3), crn: part(12, 4), crm: part(8, 4), op2: part(5, 3) };
+        Some(Move { read: part(21, 1) == 1, place, rt: part(0, 5) })
+    }
+}
+
+/// XZR, with which MSR writes 0.
+const XZR: u8 = 31;
+
+fn xt(rt: u8) -> String {
+    match rt {
+        XZR => "xzr".to_string(),
+        rt => format!("x{rt}"),
+    }
+}
+
+/// Whether words begin an instruction.
+pub fn is_mnemonic(token: &Token) -> bool {
+    token.is("mrs") || token.is("msr")
+}
+
+/// `mrs Xt, REGISTER`, `msr REGISTER, Xt = VALUE`: the word and the operand.
+pub fn parse(names: &Names, cursor: &mut Cursor) -> Result<(u32, u64), Fault> {
+    let read = cursor.take("the instruction")?.is("mrs");
+    let (first, second) = if read {
+        let rt = register_xt(names, cursor, "mrs x0, REGISTER")?;
+        comma(cursor)?;
+        (rt, register(names, cursor, "mrs x0, REGISTER")?)
+    } else {
+        let place = register(names, cursor, "msr REGISTER, x0 = VALUE")?;
+        comma(cursor)?;
+        (register_xt(names, cursor, "msr REGISTER, x0 = VALUE")?, place)
+    };
+    let word = Move { read, place: second, rt: first }.word();
+    let needed = !read && first != XZR;
+    Ok((word, operand(cursor, needed)?))
+}
+
+/// `access WORD = VALUE`, any word.
+pub fn parse_word(cursor: &mut Cursor) -> Result<(u32, u64), Fault> {
+    let token = cursor.take("the word")?;
+    let found = match hexadecimal(token.text) {
+        Some(rest) => digits(rest, 16),
+        None => digits(token.text, 16).filter(|_| token.text.len() == 8),
+    };
+    match found.flatten().and_then(|word| u32::try_from(word).ok()) {
+        Some(word) => Ok((word, operand(cursor, false)?)),
+        None => Err(Fault::new(Problem::NoWord(token.text.to_string()), token.span)),
+    }
+}
+
+/// `= VALUE`: what Xt holds, 0 where it may be left out.
+fn operand(cursor: &mut Cursor, needed: bool) -> Result<u64, Fault> {
+    if !cursor.passes("=") {
+        return match cursor.done() {
+            Ok(()) if needed => Err(Fault::new(Problem::NoEquals, cursor.behind())),
+            other => other.map(|()| 0),
+        };
+    }
+    let token = cursor.take("the value")?;
+    number(token.text, "the value", 8).map_err(|problem| Fault::new(problem, token.span))
+}
+
+fn comma(cursor: &mut Cursor) -> Result<(), Fault> {
+    match cursor.peek() {
+        Some(next) if !next.is(",") => Err(Fault::new(Problem::NoComma, next.span)),
+        _ => cursor.take("a comma and what follows it").map(|_| ()),
+    }
+}
+
+fn number_of_xt(token: &Token) -> Option<u8> {
+    if token.is(&xt(XZR)) {
+        return Some(XZR);
+    }
+    let number: u8 = token.text.strip_prefix(['x', 'X'])?.parse().ok()?;
+    // leading zeros and signs are not taken
+    (number < XZR && token.is(&xt(number))).then_some(number)
+}
+
+fn register_xt(names: &Names, cursor: &mut Cursor, right: &'static str) -> Result<u8, Fault> {
+    let token = cursor.take("the register Xt")?;
+    number_of_xt(&token).ok_or_else(|| match names.register(token.text) {
+        Found::One(_) => Fault::new(Problem::Order(right), token.span),
+        _ => Fault::new(Problem::NoXt(token.text.to_string()), token.span),
+    })
+}
+
+fn register(names: &Names, cursor: &mut Cursor, right: &'static str) -> Result<Place, Fault> {
+    let token = cursor.take("the register")?;
+    match names.register(token.text) {
+        Found::One(place) => Ok(place),
+        _ if number_of_xt(&token).is_some() => Err(Fault::new(Problem::Order(right), token.span)),
+        _ => {
+            let hint = names.register_hint(token.text);
+            Err(Fault::new(Problem::NoRegister(token.text.to_string()), token.span).with(hint))
+        }
+    }
+}
+
+/// An access as a text has it. What `= VALUE` says is left out where it may be and is 0.
+pub fn text(names: &Names, word: u32, operand: u64) -> String {
+    let value = |shown: bool| if shown { format!(" = {}", mask(operand)) } else { String::new() };
+    match Move::new(word) {
+        None => format!("access {word:08X}{}", value(operand != 0)),
+        Some(Move { read: true, place, rt }) => {
+            format!("mrs {}, {}{}", xt(rt), names.of_register(place), value(operand != 0))
+        }
+        Some(Move { read: false, place, rt }) => {
+            let shown = rt != XZR || operand != 0;
+            format!("msr {}, {}{}", names.of_register(place), xt(rt), value(shown))
+        }
+    }
+}

@@ -1,0 +1,126 @@
+//! One line of a text, taken apart: the words of its command, and the answers that it expects.
+
+use crate::fault::{Fault, Problem, Span};
+
+/// A word of a line, or one of the marks `,` and `=`.
+#[derive(Clone, Copy, Debug, PartialEq, Eq)]
+pub struct Token<'a> {
+    pub text: &'a str,
+    pub span: Span,
+}
+
+impl Token<'_> {
+    pub fn is(&self, word: &str) -> bool {
+        self.text.eq_ignore_ascii_case(word)
+    }
+}
+
+/// A line: what stands before the first `#`, and what stands behind each `#>`.
+pub struct Line<'a> {
+    pub code: Span,
+    /// Where the first `#>` begins, or the line ends.
+    pub shown: usize,
+    pub expected: Vec<Span>,
+    text: &'a str,
+}
+
+impl<'a> Line<'a> {
+    pub fn new(text: &'a str) -> Line<'a> {
+        let code = text.find('#').unwrap_or(text.len());
+        let mut line =
+            Line { code: Span { start: 0, end: code }, shown: text.len(), expected: vec![], text };
+        let mut at = code;
+        while let Some(mark) = text[at..].find("#>") {
+            let start = at + mark + 2;
+            let end = text[start..].find('#').map_or(text.len(), |next| start + next);
+            line.shown = line.shown.min(start - 2);
+            line.expected.push(Span { start, end });
+            at = end;
+        }
+        line
+    }
+
+    /// The words of a part of the line.
+    pub fn words(&self, part: Span) -> Cursor<'a> {
+        let mut tokens = Vec::new();
+        let mut start = None;
+        let text = &self.text[..part.end];
+        let mut close = |start: &mut Option<usize>, end: usize| {
+            if let Some(start) = start.take() {
+                tokens.push(Token { text: &text[start..end], span: Span { start, end } });
+            }
+        };
+        for (at, c) in text.char_indices().skip_while(|(at, _)| *at < part.start) {
+            if c.is_whitespace() || c == ',' || c == '=' {
+                close(&mut start, at);
+                start = if c.is_whitespace() { None } else { Some(at) };
+                close(&mut start, at + c.len_utf8());
+            } else if start.is_none() {
+                start = Some(at);
+            }
+        }
+        close(&mut start, text.len());
+        Cursor {
+            end: tokens.last().map_or(part.start, |last| last.span.end),
+            tokens,
+            at: 0,
+            text: self.text,
+        }
+    }
+}
+
+/// Words, and how many of them are read.
+pub struct Cursor<'a> {
+    pub tokens: Vec<Token<'a>>,
+    text: &'a str,
+    at: usize,
+    end: usize,
+}
+
+impl<'a> Cursor<'a> {
+    pub fn rest(&self) -> &[Token<'a>] {
+        &self.tokens[self.at..]
+    }
+
+    pub fn peek(&self) -> Option<Token<'a>> {
+        self.rest().first().copied()
+    }
+
+    /// The place behind the last word.
+    pub fn behind(&self) -> Span {
+        Span { start: self.end, end: self.end }
+    }
+
+    /// The next word, which must be there.
+    pub fn take(&mut self, what: &'static str) -> Result<Token<'a>, Fault> {
+        let next = self.peek().ok_or_else(|| Fault::new(Problem::Missing(what), self.behind()))?;
+        self.at += 1;
+        Ok(next)
+    }
+
+    /// Several words at once, with what stands between them.
+    pub fn several(&mut self, count: usize) -> Token<'a> {
+        let tokens = &self.rest()[..count];
+        let span = Span { start: tokens[0].span.start, end: tokens[count - 1].span.end };
+        self.at += count;
+        Token { text: &self.text[span.start..span.end], span }
+    }
+
+    /// Passes over a word, if it is the next one.
+    pub fn passes(&mut self, word: &str) -> bool {
+        let there = self.peek().map_or(false, |next| next.is(word));
+        self.at += usize::from(there);
+        there
+    }
+
+    /// Nothing may stand behind what is read.
+    pub fn done(&self) -> Result<(), Fault> {
+        match self.peek() {
+            None => Ok(()),
+            Some(next) => {
+                let span = Span { start: next.span.start, end: self.end };
+                Err(Fault::new(Problem::Surplus(self.text[span.start..span.end].to_string()), span))
+            }
+        }
+    }
+}

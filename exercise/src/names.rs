@@ -1,0 +1,204 @@
+//! Fields and registers by the names that a text may have for them. Case does not matter, and
+//! `FEAT_` and `_EL0` to `_EL3` may be left out where that leaves one of them.
+
+use crate::near::{meant, near};
+use crate::tables::fields::{field, FIELDS};
+use crate::tables::registers::{Place, EXTERNALS, REGISTERS};
+use std::collections::HashMap;
+
+/// What a name was found to be.
+pub enum Found<T> {
+    One(T),
+    /// These full names are left where more than one is.
+    Many(Vec<String>),
+    None,
+}
+
+/// Names of one kind. `whole` has them in capitals, `short` with parts left out.
+struct Index<T> {
+    whole: HashMap<String, T>,
+    short: HashMap<String, Vec<(String, T)>>,
+    list: Vec<String>,
+}
+
+impl<T: Copy + PartialEq> Index<T> {
+    fn new(names: impl Iterator<Item = (String, T)>) -> Index<T> {
+        let mut index = Index { whole: HashMap::new(), short: HashMap::new(), list: Vec::new() };
+        for (name, thing) in names.filter(|(name, _)| !name.is_empty()) {
+            index.whole.insert(name.to_uppercase(), thing);
+            let same = index.short.entry(without_parts(&name).to_uppercase()).or_default();
+            if !same.iter().any(|(_, other)| *other == thing) {
+                same.push((name.clone(), thing));
+            }
+            index.list.push(without_parts(&name));
+            index.list.push(name);
+        }
+        index
+    }
+
+    fn find(&self, name: &str) -> Found<T> {
+        let name = name.to_uppercase();
+        if let Some(thing) = self.whole.get(&name) {
+            return Found::One(*thing);
+        }
+        match self.short.get(&name).map(Vec::as_slice) {
+            None => Found::None,
+            Some([(_, thing)]) => Found::One(*thing),
+            Some(several) => Found::Many(several.iter().map(|(name, _)| name.clone()).collect()),
+        }
+    }
+
+    /// What may have been meant by a name that is none.
+    fn hint(&self, name: &str) -> String {
+        let digit = |c: char| c.is_ascii_digit();
+        let start = name.find(digit).unwrap_or(name.len());
+        let end = name[start..].find(|c| !digit(c)).map_or(name.len(), |rest| start + rest);
+        let numbered = |m: u8| format!("{}{m}{}", &name[..start], &name[end..]);
+        match (self.find(&numbered(0)), self.find(&numbered(1))) {
+            (Found::One(_), Found::One(_)) => "counters have the numbers 0 to 30".to_string(),
+            _ => meant(&near(name, self.list.iter().map(String::as_str))),
+        }
+    }
+
+    /// A name without the parts that may be left out, unless there is another register whose name
+    /// is then the same, as MDCR_EL2 and MDCR_EL3.
+    fn printed(&self, name: &str) -> String {
+        let register = |name: &str| name.split('.').next().unwrap_or("").to_string();
+        let mine = register(name);
+        let other =
+            |other: &String| register(other) != mine && register(other) != without_parts(&mine);
+        let same = |other: &String| without_parts(&register(other)) == without_parts(&mine);
+        match self.list.iter().any(|name| same(name) && other(name)) {
+            true => name.to_string(),
+            false => without_parts(name),
+        }
+    }
+}
+
+fn without_parts(name: &str) -> String {
+    let mut name = name.strip_prefix("FEAT_").unwrap_or(name).to_string();
+    for part in ["_EL0", "_EL1", "_EL2", "_EL3"] {
+        name = name.replace(part, "").replace(&part.to_lowercase(), "");
+    }
+    name
+}
+
+/// A name of a row for its number m.
+fn numbered(name: &str, m: u8) -> String {
+    name.replace("<m>", &m.to_string())
+}
+
+pub struct Names {
+    fields: Index<u8>,
+    registers: Index<Place>,
+    externals: Index<u16>,
+    /// The name that each field is printed with.
+    printed: HashMap<u8, String>,
+}
+
+impl Names {
+    pub fn new() -> Names {
+        let fields = FIELDS.iter().flat_map(|f| {
+            let names =
+                move |m| [(numbered(f.arm, m), f.number + m), (numbered(f.model, m), f.number + m)];
+            (0..f.count).flat_map(names)
+        });
+        let registers = REGISTERS.iter().flat_map(|r| {
+            (0..r.count).map(move |m| (numbered(r.name, m).to_lowercase(), r.place.plus(m)))
+        });
+        let externals = EXTERNALS.iter().map(|e| (e.name.to_string(), e.offset));
+        let mut names = Names {
+            fields: Index::new(fields),
+            registers: Index::new(registers),
+            externals: Index::new(externals),
+            printed: HashMap::new(),
+        };
+        names.printed = (0..=u8::MAX).filter_map(|f| Some((f, names.printed_field(f)?))).collect();
+        names
+    }
+
+    pub fn field(&self, name: &str) -> Found<u8> {
+        self.fields.find(name)
+    }
+
+    pub fn register(&self, name: &str) -> Found<Place> {
+        match Place::by_parts(name) {
+            Some(place) => Found::One(place),
+            None => self.registers.find(name),
+        }
+    }
+
+    pub fn external(&self, name: &str) -> Found<u16> {
+        self.externals.find(name)
+    }
+
+    pub fn field_hint(&self, name: &str) -> String {
+        self.fields.hint(name)
+    }
+
+    pub fn register_hint(&self, name: &str) -> String {
+        self.registers.hint(name)
+    }
+
+    pub fn external_hint(&self, name: &str) -> String {
+        self.externals.hint(name)
+    }
+
+    pub fn of_field(&self, number: u8) -> Option<&str> {
+        self.printed.get(&number).map(String::as_str)
+    }
+
+    /// Arm's name, or MODEL's where Arm's is a function or there is none.
+    fn printed_field(&self, number: u8) -> Option<String> {
+        let field = field(number)?;
+        let function = field.arm.is_empty() || field.arm.contains('(');
+        let name = if function { field.model } else { field.arm };
+        Some(self.fields.printed(&numbered(name, number - field.number)))
+    }
+
+    /// The name of a register, or its parts where it is none of the model's.
+    pub fn of_register(&self, place: Place) -> String {
+        for r in &REGISTERS {
+            if let Some(m) = (0..r.count).find(|&m| r.place.plus(m) == place) {
+                return numbered(r.name, m).to_lowercase();
+            }
+        }
+        place.parts()
+    }
+}
+
+impl Default for Names {
+    fn default() -> Names {
+        Names::new()
+    }
+}
+
+impl Place {
+    /// MODEL W4: the place m further on, by CRm and op2.
+    pub fn plus(self, m: u8) -> Place {
+        let at = self.crm * 8 + self.op2 + m;
+        Place { crm: at / 8, op2: at % 8, ..self }
+    }
+
+    /// Arm's name for any register by the parts of its words: `S3_3_C9_C12_4`.
+    fn parts(self) -> String {
+        format!("s{}_{}_c{}_c{}_{}", self.op0, self.op1, self.crn, self.crm, self.op2)
+    }
+
+    fn by_parts(name: &str) -> Option<Place> {
+        let name = name.to_lowercase();
+        let mut parts = name.strip_prefix('s')?.split('_');
+        let mut part = |mark: &str| parts.next()?.strip_prefix(mark)?.parse::<u8>().ok();
+        let place = Place {
+            op0: part("")?,
+            op1: part("")?,
+            crn: part("c")?,
+            crm: part("c")?,
+            op2: part("")?,
+        };
+        // a name with leading zeros or signs, more parts or larger numbers is none
+        let held =
+            (2..=3).contains(&place.op0) && place.op1 < 8 && place.crn < 16 && place.crm < 16;
+        (held && place.op2 < 8 && place.parts() == name).then_some(place)
+    }
+}
