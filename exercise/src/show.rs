@@ -17,13 +17,16 @@ pub enum Width {
 }
 
 /// What is left for an answer in columns, at least.
-const ROOM: usize = 32;
+const ROOM: usize = 35;
+
+/// What a line has in columns, at least.
+const LEAST: usize = 20;
 
 /// Longer lines do not move the answers of the others.
 const LONG: usize = 60;
 
-/// What stands before an answer that is below its line.
-const BELOW: &str = "-> ";
+/// What stands before an answer.
+const MARK: &str = "-> ";
 
 struct Layout {
     /// Where the text of a line begins, behind its number.
@@ -74,53 +77,43 @@ impl Layout {
         let (columns, below) = match width {
             Width::Wide => (usize::MAX, false),
             Width::Narrow => (usize::MAX, true),
-            Width::Columns(columns) => (columns.max(left + 20), false),
+            Width::Columns(columns) => {
+                (columns.max(left + LEAST), columns < left + LEAST + 2 + ROOM)
+            }
         };
-        let most = columns.saturating_sub(left + 2 + ROOM).clamp(20, LONG);
+        let most = columns.saturating_sub(left + 2 + ROOM).clamp(LEAST, LONG);
         Layout { left, beside: left + longest.min(most) + 2, columns, below }
     }
 
+    /// A line by its number, and its answers behind or below it.
     fn row(&self, out: &mut String, number: &str, line: &str, said: &[String]) {
-        let head = format!("{number:>width$}  ", width = self.left - 2);
-        let pieces = wrap(line, self.columns - self.left);
-        for (index, piece) in pieces.iter().enumerate() {
-            let head = if index == 0 { head.clone() } else { " ".repeat(self.left) };
-            out.push_str(&format!("{head}{piece}"));
-            if index + 1 < pieces.len() {
-                out.push('\n');
-            }
+        let mut lines = wrap(line, self.columns - self.left);
+        for (index, line) in lines.iter_mut().enumerate() {
+            let number = if index == 0 { number } else { "" };
+            *line = format!("{number:>width$}  {line}", width = self.left - 2);
         }
-        let used = self.left + pieces.last().map_or(0, |piece| piece.chars().count());
-        self.answers(out, used, pieces.len() == 1, said);
-        while out.ends_with(' ') {
-            out.pop();
-        }
-        out.push('\n');
-    }
-
-    /// Behind a line that goes up to a column: its answers.
-    fn answers(&self, out: &mut String, used: usize, single: bool, said: &[String]) {
-        let longest = said.iter().map(|answer| answer.chars().count()).max().unwrap_or(0);
-        let fits = single && !self.below && used + 2 <= self.beside;
-        let close = single && !self.below && said.len() == 1 && used + 2 + longest <= self.columns;
-        let column = match (fits, close) {
-            (true, _) => self.beside,
-            (false, true) => used + 2,
-            (false, false) => self.left + 2 + BELOW.len(),
+        let used = lines[lines.len() - 1].chars().count();
+        let single = lines.len() == 1 && !self.below;
+        let longest =
+            MARK.len() + said.iter().map(|answer| answer.chars().count()).max().unwrap_or(0);
+        let (column, mut behind) = match single {
+            true if used + 2 <= self.beside => (self.beside, true),
+            true if said.len() == 1 && used + 2 + longest <= self.columns => (used + 2, true),
+            _ => (self.left + 2, false),
         };
-        let mut at = if fits || close { used } else { usize::MAX };
         for answer in said {
-            let mark = if fits || close { "" } else { BELOW };
-            for (index, piece) in wrap(answer, self.columns - column).into_iter().enumerate() {
-                if at > column {
-                    out.push('\n');
-                    at = 0;
+            for (index, piece) in
+                wrap(answer, self.columns - column - MARK.len()).iter().enumerate()
+            {
+                let mark = if index == 0 { MARK } else { "   " };
+                if !std::mem::take(&mut behind) {
+                    lines.push(String::new());
                 }
-                let mark = if index == 0 { mark } else { "" };
-                out.push_str(&format!("{}{mark}{piece}", " ".repeat(column - at - mark.len())));
-                at = usize::MAX;
+                let last = lines.len() - 1;
+                lines[last] = format!("{:<column$}{mark}{piece}", lines[last]);
             }
         }
+        lines.iter().for_each(|line| out.push_str(&format!("{}\n", line.trim_end())));
     }
 }
 

@@ -102,11 +102,11 @@ fn wide_and_narrow() {
     let input = b"set PMUv3 1  # there\n\nset PMCR.N 1\nmrs x30, pmevcntr0_el0  #> trap 1\n";
     let text = Text::read(&names, input);
     let wide = [
-        " 1  set PMUv3 1  # there    ok",
+        " 1  set PMUv3 1  # there    -> ok",
         " 2",
-        " 3  set PMCR.N 1            ok",
-        " 4  mrs x30, pmevcntr0_el0  trap to EL1, syndrome 6230FBD1, cause 1: PMUSERENR_EL0",
-        "    (the text ends)         refused 2: the bytes end inside a command, or without an end",
+        " 3  set PMCR.N 1            -> ok",
+        " 4  mrs x30, pmevcntr0_el0  -> trap to EL1, syndrome 6230FBD1, cause 1: PMUSERENR_EL0",
+        "    (the text ends)         -> refused 2: the bytes end inside a command, or without an end",
     ];
     let narrow = [
         " 1  set PMUv3 1  # there",

@@ -37,8 +37,8 @@ fn run_prints_lines() {
     assert_eq!(all(&["run", "--lines", "-"], WORKED), (LINES.to_string(), String::new(), 0));
     let (out, error, status) = all(&["run", "-"], WORKED);
     assert_eq!((error.as_str(), status), ("", 0));
-    assert!(out.contains("\n 5  mrs x2, pmevcntr1_el0  x2 = 0x2A (42)\n"), "{out}");
-    assert!(out.contains("\n 6  mrs x2, pmevcntr2_el0  undefined\n"), "{out}");
+    assert!(out.contains("\n 5  mrs x2, pmevcntr1_el0  -> x2 = 0x2A (42)\n"), "{out}");
+    assert!(out.contains("\n 6  mrs x2, pmevcntr2_el0  -> undefined\n"), "{out}");
     let (narrow, _, _) = all(&["run", "--narrow", "-"], WORKED);
     assert!(narrow.contains("\n 6  mrs x2, pmevcntr2_el0\n      -> undefined\n"), "{narrow}");
     let (columns, _, _) = all(&["run", "--width", "40", "-"], WORKED);
@@ -129,7 +129,7 @@ fn warnings_do_not_stop() {
     assert_eq!((out.as_str(), status), ("0 refused 6\n", 0));
     assert!(error.starts_with("standard input:1366:1: warning: this passes 4,096"), "{error}");
     let (out, _, _) = all(&["run", "-"], &long);
-    assert!(out.contains("\n1366  read C00  refused 6: the session is too long"), "{out}");
+    assert!(out.contains("\n1366  read C00  -> refused 6: the session is too long"), "{out}");
 }
 
 #[test]
