@@ -1,6 +1,6 @@
 //! The tables as `exercise fields` and its like print them.
 
-use crate::names::Names;
+use crate::names::printed as printed_name;
 use crate::number::printed;
 use crate::tables::commands::COMMANDS;
 use crate::tables::fields::FIELDS;
@@ -28,7 +28,7 @@ fn table(heading: &[&str], rows: Vec<Vec<String>>) -> String {
 }
 
 /// Fields by number, with the name that a text is printed with and the others that it may have.
-pub fn fields(names: &Names) -> String {
+pub fn fields() -> String {
     let row = |f: &crate::tables::fields::Field| {
         let last = f.number + f.count - 1;
         let number = if f.count == 1 {
@@ -36,8 +36,7 @@ pub fn fields(names: &Names) -> String {
         } else {
             format!("{:02X}-{last:02X}", f.number)
         };
-        let zero = names.of_field(f.number).unwrap_or_default().to_string();
-        let name = if f.count == 1 { zero } else { zero.replacen('0', "<m>", 1) };
+        let name = printed_name(f);
         // the full name of Arm's is not another
         let functions = if f.arm.contains('(') { f.arm } else { "" };
         let other = [f.model, functions].into_iter().find(|o| !o.is_empty() && *o != name);

@@ -67,7 +67,7 @@ fn main() -> ExitCode {
 fn call(names: &Names, arguments: &[&str]) -> Result<(), Stop> {
     match arguments {
         ["--help" | "-h" | "help"] => output(HELP.as_bytes()),
-        ["fields"] => output(listing::fields(names).as_bytes()),
+        ["fields"] => output(listing::fields().as_bytes()),
         ["registers"] => output(listing::registers().as_bytes()),
         ["commands"] => output(listing::commands().as_bytes()),
         ["refusals"] => output(listing::refusals().as_bytes()),

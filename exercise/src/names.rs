@@ -2,7 +2,7 @@
 //! `FEAT_` and `_EL0` to `_EL3` may be left out where that leaves one of them.
 
 use crate::near::{meant, near};
-use crate::tables::fields::{field, FIELDS};
+use crate::tables::fields::{Field, FIELDS};
 use crate::tables::registers::{Place, EXTERNALS, REGISTERS};
 use std::collections::HashMap;
 
@@ -59,20 +59,6 @@ impl<T: Copy + PartialEq> Index<T> {
             _ => meant(&near(name, self.list.iter().map(String::as_str))),
         }
     }
-
-    /// A name without the parts that may be left out, unless there is another register whose name
-    /// is then the same, as MDCR_EL2 and MDCR_EL3.
-    fn printed(&self, name: &str) -> String {
-        let register = |name: &str| name.split('.').next().unwrap_or("").to_string();
-        let mine = register(name);
-        let other =
-            |other: &String| register(other) != mine && register(other) != without_parts(&mine);
-        let same = |other: &String| without_parts(&register(other)) == without_parts(&mine);
-        match self.list.iter().any(|name| same(name) && other(name)) {
-            true => name.to_string(),
-            false => without_parts(name),
-        }
-    }
 }
 
 fn without_parts(name: &str) -> String {
@@ -81,6 +67,22 @@ fn without_parts(name: &str) -> String {
         name = name.replace(part, "").replace(&part.to_lowercase(), "");
     }
     name
+}
+
+/// The name that a row is printed with: Arm's, or MODEL's where Arm's is a function or there is
+/// none. Parts are left out unless there is another register whose name is then the same, as
+/// MDCR_EL2 and MDCR_EL3.
+pub fn printed(field: &Field) -> String {
+    if field.arm.is_empty() || field.arm.contains('(') {
+        return field.model.to_string();
+    }
+    let register = |f: &Field| f.arm.split('.').next().unwrap_or("");
+    let mine = register(field);
+    let same = |f: &Field| register(f) != mine && without_parts(register(f)) == without_parts(mine);
+    match FIELDS.iter().any(same) {
+        true => field.arm.to_string(),
+        false => without_parts(field.arm),
+    }
 }
 
 /// A name of a row for its number m.
@@ -107,14 +109,16 @@ impl Names {
             (0..r.count).map(move |m| (numbered(r.name, m).to_lowercase(), r.place.plus(m)))
         });
         let externals = EXTERNALS.iter().map(|e| (e.name.to_string(), e.offset));
-        let mut names = Names {
+        let printed = FIELDS.iter().flat_map(|f| {
+            let name = printed(f);
+            (0..f.count).map(move |m| (f.number + m, numbered(&name, m)))
+        });
+        Names {
             fields: Index::new(fields),
             registers: Index::new(registers),
             externals: Index::new(externals),
-            printed: HashMap::new(),
-        };
-        names.printed = (0..=u8::MAX).filter_map(|f| Some((f, names.printed_field(f)?))).collect();
-        names
+            printed: printed.collect(),
+        }
     }
 
     pub fn field(&self, name: &str) -> Found<u8> {
@@ -146,14 +150,6 @@ impl Names {
 
     pub fn of_field(&self, number: u8) -> Option<&str> {
         self.printed.get(&number).map(String::as_str)
-    }
-
-    /// Arm's name, or MODEL's where Arm's is a function or there is none.
-    fn printed_field(&self, number: u8) -> Option<String> {
-        let field = field(number)?;
-        let function = field.arm.is_empty() || field.arm.contains('(');
-        let name = if function { field.model } else { field.arm };
-        Some(self.fields.printed(&numbered(name, number - field.number)))
     }
 
     /// The name of a register, or its parts where it is none of the model's.
