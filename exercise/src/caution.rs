@@ -2,113 +2,124 @@
 //! the text expects itself is no warning.
 
 use crate::expected::Expected;
-use crate::fault::{Fault, Problem, Span};
-use crate::line::{Cursor, Line, Token};
+use crate::fault::{Fault, Problem, Span, Warning};
+use crate::line::{Cursor, Token};
 use crate::names::Names;
-use crate::session::{is_long, operands, pieces, shortest, Kind, Piece};
-use crate::tables::commands::{command as known, Command, Operand};
-use crate::tables::fields::field;
-use crate::text::{Row, Text};
+use crate::notation::is_notation;
+use crate::number::{mask, printed};
+use crate::session::{is_long, operands, shortest, Piece};
+use crate::tables::commands::{command as known, Command, Operand, BYTES_WORD};
+use crate::tables::fields::{field, Unheld};
+use crate::tables::registers::EXTERNALS;
+use crate::text::{Fate, Row, Text};
 
 /// Of a command: what is refused whatever the machine is like.
-pub fn command(names: &Names, bytes: &[u8], cursor: &Cursor, short: bool) -> Vec<Fault> {
+pub fn command(names: &Names, bytes: &[u8], cursor: &Cursor, short: bool) -> Option<Fault> {
     let tokens = &cursor.tokens;
-    let whole =
-        known(bytes[0], short).filter(|c| c.size() == bytes.len() && !tokens[0].is("bytes"));
-    let command = match whole {
-        Some(command) => command,
-        None => return Vec::new(),
-    };
+    let command = known(bytes[0], short).filter(|c| c.size() == bytes.len())?;
+    if tokens[0].is(BYTES_WORD) {
+        return None;
+    }
     let values = operands(command, bytes);
     if shortest(command.name, &values, short).map_or(false, |s| s.byte != command.byte) {
-        return vec![Fault::new(Problem::Wide, tokens[0].span)];
+        return Some(Fault::warning(Warning::Wide {}, tokens[0].span));
     }
-    let operands = command.operands.iter().zip(&values);
-    let fault = |(operand, value): (&Operand, &u64)| {
-        of_operand(names, command, *operand, *value, &values, tokens)
-    };
     // the first is enough: the model tests no further
-    operands.filter_map(fault).take(1).collect()
+    (0..values.len()).find_map(|index| {
+        let warning = of_operand(names, command, &values, index)?;
+        Some(Fault::warning(warning, place(tokens, command, index)))
+    })
 }
 
-fn of_operand(
-    names: &Names,
-    command: &Command,
-    operand: Operand,
-    value: u64,
-    values: &[u64],
-    tokens: &[Token],
-) -> Option<Fault> {
-    let last = tokens[tokens.len() - 1].span;
-    match operand {
+fn of_operand(names: &Names, command: &Command, values: &[u64], index: usize) -> Option<Warning> {
+    let value = values[index];
+    match command.operands[index] {
         Operand::Field if field(value as u8).is_none() => {
-            Some(Fault::new(Problem::Unknown(value as u8), tokens[1].span))
+            Some(Warning::Unknown { number: value as u8 })
         }
         Operand::Value(_) if command.operands[0] == Operand::Field => {
             let row = field(values[0] as u8)?;
             let field = names.of_field(values[0] as u8)?.to_string();
-            let above = Problem::Above { value, field, largest: row.largest };
-            (value & !row.largest != 0).then(|| Fault::new(above, last))
+            let number = |n: u64| if row.mask { mask(n) } else { printed(n) };
+            row.refuses(value).map(|reason| match reason {
+                Unheld::Above => {
+                    Warning::Above { value: number(value), field, largest: number(row.largest) }
+                }
+                Unheld::NoBit(bit) => Warning::NoBit { field, bit },
+            })
         }
-        Operand::Level => (value > 3).then(|| Fault::new(Problem::Level(value), last)),
-        Operand::Prohibited => (value > 1).then(|| Fault::new(Problem::Flag(value), last)),
+        Operand::Level if value > 3 => Some(Warning::Level { level: value }),
+        Operand::Prohibited if value > 1 => Some(Warning::Flag { flag: value }),
+        Operand::Offset if EXTERNALS.iter().all(|e| u64::from(e.offset) != value) => {
+            Some(Warning::Offset { offset: value })
+        }
         _ => None,
     }
 }
 
-/// Of the whole session. Warnings that the text expects are taken away.
+/// Where an operand stands. By name the last is the last word, and the first stands before it; in
+/// bytes each has as many words as make up its bytes.
+fn place(tokens: &[Token], command: &Command, index: usize) -> Span {
+    let last = tokens.len() - 1;
+    let (first, last) = match (is_notation(&tokens[0]), index + 1 == command.operands.len()) {
+        (false, true) => (last, last),
+        (false, false) => (1, last - 1),
+        (true, is_last) => {
+            let before: usize =
+                command.operands[..index].iter().map(|operand| operand.size()).sum();
+            let first = 1 + before;
+            (first, if is_last { last } else { first + command.operands[index].size() - 1 })
+        }
+    };
+    Span { start: tokens[first].span.start, end: tokens[last].span.end }
+}
+
+/// Of the whole session. Warnings that the text expects, or that are of what is not read, are taken
+/// away.
 pub fn whole(text: &mut Text) {
-    let pieces = pieces(&text.bytes);
-    let last = pieces[pieces.len() - 1];
-    for row in text.rows.iter_mut().filter(|row| is_inside(row, &pieces)) {
-        row.faults.push(Fault::new(Problem::Inside, code(&row.source)));
+    let (pieces, bytes) = (&text.pieces, &text.bytes);
+    for row in &mut text.rows {
+        let read = matches!(&row.fate, Fate::Commands(range) if pieces[range.start].start == row.bytes.start);
+        if !read {
+            row.faults.clear();
+        }
+        if !is_long(bytes) && is_inside(row, pieces) {
+            row.faults.push(Fault::warning(Warning::Inside {}, row.code));
+        }
     }
-    if is_long(&text.bytes) {
-        let at = text.passing();
-        warn(text, at, Problem::Long);
-    } else {
-        let at = text.rows.iter().position(|row| is_behind(row, &last));
-        warn(text, at, Problem::NotRead);
-        let cut = matches!(last.kind, Kind::Cut) && last.start == text.bytes.len();
-        let at =
-            text.rows.iter().rposition(|row| !row.bytes.is_empty() || !row.expected.is_empty());
-        warn(text, at.or(Some(0)).filter(|_| cut), Problem::NoEnd);
-    }
+    let behind = text.rows.iter().position(|row| row.fate == Fate::NotRead);
+    let (long, early) = (is_long(&text.bytes), text.ends_early());
+    let (passing, closing) = (text.passing(), text.closing());
+    warn(text, behind, Warning::NotRead {});
+    warn(text, passing.filter(|_| long), Warning::Long {});
+    warn(text, Some(closing).filter(|_| early), Warning::NoEnd {});
     for Row { faults, expected, .. } in &mut text.rows {
         faults.retain(|fault| !is_expected(&fault.problem, expected));
     }
 }
 
-fn warn(text: &mut Text, at: Option<usize>, problem: Problem) {
-    if let Some(row) = at.and_then(|at| text.rows.get_mut(at)) {
-        row.faults.push(Fault::new(problem, code(&row.source)));
+fn warn(text: &mut Text, at: Option<usize>, warning: Warning) {
+    if let Some(at) = at {
+        let row = &mut text.rows[at];
+        row.faults.push(Fault::warning(warning, row.code));
     }
-}
-
-/// The part of a line that is its command.
-fn code(source: &str) -> Span {
-    let line = Line::new(source);
-    let words = line.words(line.code);
-    match (words.tokens.first(), words.tokens.last()) {
-        (Some(first), Some(last)) => Span { start: first.span.start, end: last.span.end },
-        _ => line.code,
-    }
-}
-
-/// Bytes of the line stand behind all that is read.
-fn is_behind(row: &Row, last: &Piece) -> bool {
-    !row.bytes.is_empty() && row.bytes.start >= last.end && row.bytes.start > last.start
 }
 
 /// The line begins inside a command.
 fn is_inside(row: &Row, pieces: &[Piece]) -> bool {
     let before = pieces.partition_point(|piece| piece.start < row.bytes.start);
-    let inside = |piece: &Piece| row.bytes.start < piece.end;
-    !row.bytes.is_empty() && before > 0 && inside(&pieces[before - 1])
+    !row.bytes.is_empty() && before > 0 && row.bytes.start < pieces[before - 1].end
 }
 
-/// A warning of what the text says itself: this refusal, or that nothing is answered.
+/// A warning of what the text says itself: this answer, that none is given, or, of an offset, any.
 fn is_expected(problem: &Problem, expected: &[Expected]) -> bool {
-    let refused = |e: &Expected| problem.refusal().map_or(false, |number| e.is_refusal(number));
-    problem.is_warning() && expected.iter().any(|e| e.is_nothing() || refused(e))
+    let says = |warning: &Warning, e: &Expected| match (warning, warning.answer()) {
+        (Warning::Offset { .. }, _) => true,
+        (_, Some(answer)) => e.is(answer),
+        (_, None) => e.is_nothing(),
+    };
+    match problem {
+        Problem::Error(_) => false,
+        Problem::Warning(warning) => expected.iter().any(|e| says(warning, e)),
+    }
 }

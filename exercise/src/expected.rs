@@ -1,12 +1,11 @@
 //! The answer that a text expects: `#> trap 2 623AF851 4`. What it leaves out at its end is not
 //! compared.
 
-use crate::fault::{Fault, Problem};
+use crate::fault::{Error, Fault, Span};
 use crate::line::{Cursor, Token};
-use crate::near::{meant, near};
-use crate::number::{digits, hexadecimal};
+use crate::near::meant_of;
+use crate::number::{digits, fixed};
 use crate::tables::answers::{answer, Part, ANSWERS};
-use crate::tables::refusals::{cause, refusal};
 
 /// That no answer is given.
 const NOTHING: &str = "nothing";
@@ -15,20 +14,14 @@ const NOTHING: &str = "nothing";
 pub struct Expected {
     /// In the words of a session's line.
     words: Vec<String>,
+    /// The line of the text that it stands on, from 1, and where.
+    pub number: usize,
+    pub span: Span,
 }
 
 impl Expected {
-    /// `ok`, or `end` for the end command: what is expected where nothing is said.
-    pub fn usual(is_end: bool) -> Expected {
-        Expected { words: vec![if is_end { "end" } else { "ok" }.to_string()] }
-    }
-
     pub fn is_nothing(&self) -> bool {
         self.words == [NOTHING]
-    }
-
-    pub fn is_refusal(&self, number: u8) -> bool {
-        self.words == ["refused".to_string(), number.to_string()]
     }
 
     /// Whether an answer is the expected one.
@@ -42,51 +35,51 @@ impl Expected {
     }
 
     /// The words behind `#>`.
-    pub fn parse(cursor: &mut Cursor) -> Result<Expected, Fault> {
-        let first = cursor.take("the answer that is expected")?;
-        let word = first.text.to_lowercase();
-        if word == NOTHING {
-            let alone = cursor.done().map_err(|fault| Fault::new(Problem::Nothing, fault.span));
-            return alone.map(|()| Expected { words: vec![word] });
-        }
-        let row = answer(&word).ok_or_else(|| unknown(&first))?;
-        let mut words = vec![word];
-        for &part in row.parts {
-            match cursor.peek() {
-                None => break,
-                Some(token) => words.push(part_of(part, &token)?),
-            }
-            cursor.several(1);
-        }
-        match cursor.done() {
-            Ok(()) => Ok(Expected { words }),
-            Err(fault) => Err(Fault::new(Problem::ManyParts(row.word), fault.span)),
-        }
+    pub fn parse(cursor: &mut Cursor, number: usize) -> Result<Expected, Fault> {
+        let words = parse_words(cursor)?;
+        Ok(Expected { words, number, span: cursor.whole() })
     }
 }
 
+fn parse_words(cursor: &mut Cursor) -> Result<Vec<String>, Fault> {
+    let first = cursor.take("the answer that is expected")?;
+    let word = first.text.to_lowercase();
+    if word == NOTHING {
+        let alone = cursor.done().map_err(|fault| Fault::error(Error::Nothing {}, fault.span));
+        return alone.map(|()| vec![word]);
+    }
+    let row = answer(&word).ok_or_else(|| unknown(&first))?;
+    let mut words = vec![word];
+    for &part in row.parts {
+        match cursor.peek() {
+            None => break,
+            Some(token) => words.push(part_of(part, &token)?),
+        }
+        cursor.several(1);
+    }
+    let word = row.word;
+    cursor.done().map_err(|fault| Fault::error(Error::ManyParts { word }, fault.span))?;
+    Ok(words)
+}
+
 fn unknown(word: &Token) -> Fault {
-    let known = near(word.text, ANSWERS.iter().map(|a| a.word).chain([NOTHING]));
-    Fault::new(Problem::NoAnswer(word.text.to_string()), word.span).with(meant(&known))
+    let mut known: Vec<&str> = ANSWERS.iter().map(|a| a.word).collect();
+    known.push(NOTHING);
+    let hint = match meant_of(word.text, &known) {
+        none if none.is_empty() => format!("there are {}", known.join(", ")),
+        hint => hint,
+    };
+    Fault::error(Error::NoAnswer { word: word.text.to_string() }, word.span).with(hint)
 }
 
 /// One word of an answer as a session prints it.
 fn part_of(part: Part, token: &Token) -> Result<String, Fault> {
-    let none = Fault::new(Problem::NoPart(part.name()), token.span);
-    if let Some(count) = part.digits() {
-        let found = match hexadecimal(token.text) {
-            Some(rest) => digits(rest, 16),
-            None => digits(token.text, 16).filter(|_| token.text.len() == count),
-        };
-        let text = found.flatten().map(|number| format!("{number:0count$X}"));
-        return text.filter(|text| text.len() == count).ok_or(none);
-    }
-    let number = digits(token.text, 10).flatten();
-    let held = |n: &u64| match part {
-        Part::Target => (1..=3).contains(n),
-        Part::Xt => *n <= 31,
-        Part::Cause => cause(*n).is_some(),
-        _ => refusal(*n).is_some(),
+    let text = match part.digits() {
+        Some(count) => fixed(token.text, count).map(|number| format!("{number:0count$X}")),
+        None => {
+            let number = digits(token.text, 10).flatten().filter(|n| part.holds(*n));
+            number.map(|number| number.to_string())
+        }
     };
-    number.filter(held).map(|n| n.to_string()).ok_or(none)
+    text.ok_or_else(|| Fault::error(Error::NoPart { what: part.name() }, token.span))
 }

@@ -1,9 +1,10 @@
 //! MODEL W1 to W6, W8 and W12: instructions as a text has them, and their words.
 
-use crate::fault::{Fault, Problem};
+use crate::fault::{Error, Fault};
 use crate::line::{Cursor, Token};
 use crate::names::{Found, Names};
-use crate::number::{digits, hexadecimal, mask, number};
+use crate::number::{fixed, mask};
+use crate::tables::commands::{MRS, MSR};
 use crate::tables::registers::Place;
 
 /// A word that moves a system register.
@@ -31,9 +32,8 @@ impl Move {
             return None;
         }
         let part = |low: u32, bits: u32| (word >> low & ((1 << bits) - 1)) as u8;
-        let op0 = 2 + part(19, 1);
-        let place =
-            Place { op0, op1: part(16, 3), crn: part(12, 4), crm: part(8, 4), op2: part(5, 3) };
+        let (op0, op1) = (2 + part(19, 1), part(16, 3));
+        let place = Place { op0, op1, crn: part(12, 4), crm: part(8, 4), op2: part(5, 3) };
         Some(Move { read: part(21, 1) == 1, place, rt: part(0, 5) })
     }
 }
@@ -48,56 +48,56 @@ fn xt(rt: u8) -> String {
     }
 }
 
-/// Whether words begin an instruction.
+/// Whether a word begins an instruction.
 pub fn is_mnemonic(token: &Token) -> bool {
-    token.is("mrs") || token.is("msr")
+    token.is(MRS) || token.is(MSR)
 }
+
+const MRS_ORDER: &str = "mrs x0, REGISTER";
+const MSR_ORDER: &str = "msr REGISTER, x0 = VALUE";
 
 /// `mrs Xt, REGISTER`, `msr REGISTER, Xt = VALUE`: the word and the operand.
 pub fn parse(names: &Names, cursor: &mut Cursor) -> Result<(u32, u64), Fault> {
-    let read = cursor.take("the instruction")?.is("mrs");
-    let (first, second) = if read {
-        let rt = register_xt(names, cursor, "mrs x0, REGISTER")?;
+    let read = cursor.take("the instruction")?.is(MRS);
+    let (place, rt) = if read {
+        let rt = register_xt(names, cursor, MRS_ORDER)?;
         comma(cursor)?;
-        (rt, register(names, cursor, "mrs x0, REGISTER")?)
+        (register(names, cursor, MRS_ORDER)?, rt)
     } else {
-        let place = register(names, cursor, "msr REGISTER, x0 = VALUE")?;
+        let place = register(names, cursor, MSR_ORDER)?;
         comma(cursor)?;
-        (register_xt(names, cursor, "msr REGISTER, x0 = VALUE")?, place)
+        (place, register_xt(names, cursor, MSR_ORDER)?)
     };
-    let word = Move { read, place: second, rt: first }.word();
-    let needed = !read && first != XZR;
-    Ok((word, operand(cursor, needed)?))
+    let needed = !read && rt != XZR;
+    Ok((Move { read, place, rt }.word(), operand(cursor, needed)?))
 }
 
 /// `access WORD = VALUE`, any word.
 pub fn parse_word(cursor: &mut Cursor) -> Result<(u32, u64), Fault> {
     let token = cursor.take("the word")?;
-    let found = match hexadecimal(token.text) {
-        Some(rest) => digits(rest, 16),
-        None => digits(token.text, 16).filter(|_| token.text.len() == 8),
-    };
-    match found.flatten().and_then(|word| u32::try_from(word).ok()) {
-        Some(word) => Ok((word, operand(cursor, false)?)),
-        None => Err(Fault::new(Problem::NoWord(token.text.to_string()), token.span)),
+    match fixed(token.text, 8) {
+        Some(word) => Ok((word as u32, operand(cursor, false)?)),
+        None => Err(Fault::error(Error::NoWord { word: token.text.to_string() }, token.span)),
     }
 }
 
 /// `= VALUE`: what Xt holds, 0 where it may be left out.
 fn operand(cursor: &mut Cursor, needed: bool) -> Result<u64, Fault> {
-    if !cursor.passes("=") {
-        return match cursor.done() {
-            Ok(()) if needed => Err(Fault::new(Problem::NoEquals, cursor.behind())),
-            other => other.map(|()| 0),
-        };
+    if cursor.passes("=") {
+        return cursor.take("the value")?.number("the value", 8);
     }
-    let token = cursor.take("the value")?;
-    number(token.text, "the value", 8).map_err(|problem| Fault::new(problem, token.span))
+    match cursor.peek() {
+        Some(next) if next.number("", 8).is_ok() => {
+            Err(Fault::error(Error::NoEquals {}, next.span))
+        }
+        None if needed => Err(Fault::error(Error::NoValue {}, cursor.behind())),
+        _ => Ok(0),
+    }
 }
 
 fn comma(cursor: &mut Cursor) -> Result<(), Fault> {
     match cursor.peek() {
-        Some(next) if !next.is(",") => Err(Fault::new(Problem::NoComma, next.span)),
+        Some(next) if !next.is(",") => Err(Fault::error(Error::NoComma {}, next.span)),
         _ => cursor.take("a comma and what follows it").map(|_| ()),
     }
 }
@@ -114,8 +114,8 @@ fn number_of_xt(token: &Token) -> Option<u8> {
 fn register_xt(names: &Names, cursor: &mut Cursor, right: &'static str) -> Result<u8, Fault> {
     let token = cursor.take("the register Xt")?;
     number_of_xt(&token).ok_or_else(|| match names.register(token.text) {
-        Found::One(_) => Fault::new(Problem::Order(right), token.span),
-        _ => Fault::new(Problem::NoXt(token.text.to_string()), token.span),
+        Found::One(_) => Fault::error(Error::Order { right }, token.span),
+        _ => Fault::error(Error::NoXt { word: token.text.to_string() }, token.span),
     })
 }
 
@@ -123,10 +123,12 @@ fn register(names: &Names, cursor: &mut Cursor, right: &'static str) -> Result<P
     let token = cursor.take("the register")?;
     match names.register(token.text) {
         Found::One(place) => Ok(place),
-        _ if number_of_xt(&token).is_some() => Err(Fault::new(Problem::Order(right), token.span)),
+        _ if number_of_xt(&token).is_some() => {
+            Err(Fault::error(Error::Order { right }, token.span))
+        }
         _ => {
-            let hint = names.register_hint(token.text);
-            Err(Fault::new(Problem::NoRegister(token.text.to_string()), token.span).with(hint))
+            let error = Error::NoRegister { word: token.text.to_string() };
+            Err(Fault::error(error, token.span).with(names.register_hint(token.text)))
         }
     }
 }
@@ -137,11 +139,11 @@ pub fn text(names: &Names, word: u32, operand: u64) -> String {
     match Move::new(word) {
         None => format!("access {word:08X}{}", value(operand != 0)),
         Some(Move { read: true, place, rt }) => {
-            format!("mrs {}, {}{}", xt(rt), names.of_register(place), value(operand != 0))
+            format!("{MRS} {}, {}{}", xt(rt), names.of_register(place), value(operand != 0))
         }
         Some(Move { read: false, place, rt }) => {
             let shown = rt != XZR || operand != 0;
-            format!("msr {}, {}{}", names.of_register(place), xt(rt), value(shown))
+            format!("{MSR} {}, {}{}", names.of_register(place), xt(rt), value(shown))
         }
     }
 }

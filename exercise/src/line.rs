@@ -1,6 +1,7 @@
 //! One line of a text, taken apart: the words of its command, and the answers that it expects.
 
-use crate::fault::{Fault, Problem, Span};
+use crate::fault::{Error, Fault, Span};
+use crate::number::number;
 
 /// A word of a line, or one of the marks `,` and `=`.
 #[derive(Clone, Copy, Debug, PartialEq, Eq)]
@@ -12,6 +13,11 @@ pub struct Token<'a> {
 impl Token<'_> {
     pub fn is(&self, word: &str) -> bool {
         self.text.eq_ignore_ascii_case(word)
+    }
+
+    /// A number that so many bytes hold.
+    pub fn number(&self, what: &'static str, size: usize) -> Result<u64, Fault> {
+        number(self.text, what, size).map_err(|error| Fault::error(error, self.span))
     }
 }
 
@@ -44,13 +50,14 @@ impl<'a> Line<'a> {
     pub fn words(&self, part: Span) -> Cursor<'a> {
         let mut tokens = Vec::new();
         let mut start = None;
-        let text = &self.text[..part.end];
+        let text = self.text;
         let mut close = |start: &mut Option<usize>, end: usize| {
             if let Some(start) = start.take() {
                 tokens.push(Token { text: &text[start..end], span: Span { start, end } });
             }
         };
-        for (at, c) in text.char_indices().skip_while(|(at, _)| *at < part.start) {
+        for (at, c) in text[part.start..part.end].char_indices() {
+            let at = part.start + at;
             if c.is_whitespace() || c == ',' || c == '=' {
                 close(&mut start, at);
                 start = if c.is_whitespace() { None } else { Some(at) };
@@ -59,13 +66,9 @@ impl<'a> Line<'a> {
                 start = Some(at);
             }
         }
-        close(&mut start, text.len());
-        Cursor {
-            end: tokens.last().map_or(part.start, |last| last.span.end),
-            tokens,
-            at: 0,
-            text: self.text,
-        }
+        close(&mut start, part.end);
+        let end = tokens.last().map_or(part.start, |last| last.span.end);
+        Cursor { tokens, text, at: 0, end }
     }
 }
 
@@ -91,14 +94,27 @@ impl<'a> Cursor<'a> {
         Span { start: self.end, end: self.end }
     }
 
-    /// The next word, which must be there.
-    pub fn take(&mut self, what: &'static str) -> Result<Token<'a>, Fault> {
-        let next = self.peek().ok_or_else(|| Fault::new(Problem::Missing(what), self.behind()))?;
-        self.at += 1;
-        Ok(next)
+    /// All words, from the first to the last.
+    pub fn whole(&self) -> Span {
+        Span {
+            start: self.tokens.first().map_or(self.end, |first| first.span.start),
+            end: self.end,
+        }
     }
 
-    /// Several words at once, with what stands between them.
+    /// The next word, which must be there.
+    pub fn take(&mut self, what: &'static str) -> Result<Token<'a>, Fault> {
+        let next = self.peek();
+        self.at += usize::from(next.is_some());
+        next.ok_or_else(|| Fault::error(Error::Missing { what }, self.behind()))
+    }
+
+    /// Back to the first word.
+    pub fn again(&mut self) {
+        self.at = 0;
+    }
+
+    /// So many words at once, with what stands between them.
     pub fn several(&mut self, count: usize) -> Token<'a> {
         let tokens = &self.rest()[..count];
         let span = Span { start: tokens[0].span.start, end: tokens[count - 1].span.end };
@@ -119,7 +135,8 @@ impl<'a> Cursor<'a> {
             None => Ok(()),
             Some(next) => {
                 let span = Span { start: next.span.start, end: self.end };
-                Err(Fault::new(Problem::Surplus(self.text[span.start..span.end].to_string()), span))
+                let word = self.text[span.start..span.end].to_string();
+                Err(Fault::error(Error::Surplus { word }, span))
             }
         }
     }

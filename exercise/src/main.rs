@@ -3,45 +3,52 @@
 use exercise::check::check;
 use exercise::names::Names;
 use exercise::run::run;
+use exercise::session::{is_long, is_short, shortened};
 use exercise::show::{show, Width};
 use exercise::terminal;
 use exercise::text::Text;
+use exercise::words::{remedy, words};
 use exercise::{listing, print};
+use std::ffi::{OsStr, OsString};
 use std::fs;
 use std::io::{self, ErrorKind, Read, Write};
 use std::process::ExitCode;
 
-const HELP: &str = "Exercises for the model of the performance counter registers, as text.
+const HELP: &str = "\
+Exercises for the model of the performance counter registers, as text.
 
 exercise run [--wide | --narrow | --width N | --lines] FILE
-                      run it; each line with its answer in words, beside it or below
-                      (--lines: exactly the session's lines)
-exercise check FILE.. run them and compare with the answers that `#>` expects
+                        run it: each line with its answer in words, beside it or
+                        below; --lines: exactly the session's lines
+exercise check FILE..   run them, and compare with the answers that #> expects
 exercise bytes [--short | --long] FILE
-                      the session's bytes, as they are written or in that form
-exercise text FILE    the text of a session's bytes
-exercise commands     how commands are written
-exercise fields       the fields that `set` names
-exercise registers    the registers that `mrs`, `msr`, `read` and `write` name
-exercise refusals     what `refused` and its numbers mean
-exercise causes       what the last number of a trap means
+                        the session's bytes, as it is written or in that form
+exercise text FILE      the text of a session's bytes
+exercise commands       how commands are written
+exercise fields         the fields that `set` names
+exercise registers      the registers of `mrs`, `msr`, `read` and `write`
+exercise refusals       what `refused` and its numbers mean
+exercise causes         what the last number of a trap means
 
-FILE is - for standard input. A text has a command to a line, and # before a comment:
+FILE is - for standard input. A text has a command to a line, and # before a
+comment:
 
     set PMUv3 1
     set PMCR.N 2
-    set PMEVCNTR1 42                # its number, 61, will do for the name
+    set PMEVCNTR1 42            # its number, 61, will do for the name
     level 1
-    mrs x2, pmevcntr1_el0           #> value 0x2A 2
+    mrs x2, pmevcntr1_el0       #> value 0x2A 2
     msr pmswinc_el0, x1 = 0x18
     end
 
-Numbers are decimal or begin with 0x; those of fields, words and offsets are hexadecimal. Case
-does not matter. What follows #> is the answer that is expected, `ok` where there is none; what
-it leaves out at its end is not compared.
+Numbers are decimal or begin with 0x; those of fields, words and offsets are
+hexadecimal. Case does not matter. What follows #> is the answer that is
+expected, `ok` where there is none; what it leaves out at its end is not
+compared.
 
-The exit status is 0 where all went well; 1 where a text has errors, an answer is not the
-expected one, or a file can't be read or written; 2 where the call was wrong.
+The exit status is 0 where all went well; 1 where a text has errors, an answer
+is not the expected one, or a file can't be read or written; 2 where the call
+was wrong.
 ";
 
 /// Why the program ends with another status than 0. What is to be said stands inside.
@@ -50,52 +57,105 @@ enum Stop {
     Usage(String),
 }
 
+fn usage<T>(said: impl Into<String>) -> Result<T, Stop> {
+    Err(Stop::Usage(said.into()))
+}
+
 fn main() -> ExitCode {
-    let list: Vec<String> = std::env::args().skip(1).collect();
-    let arguments: Vec<&str> = list.iter().map(String::as_str).collect();
-    let names = Names::new();
-    let (said, status) = match call(&names, &arguments) {
+    let arguments: Vec<OsString> = std::env::args_os().skip(1).collect();
+    let (said, status) = match call(&arguments) {
         Ok(()) => return ExitCode::SUCCESS,
         Err(Stop::Failed(said)) => (said, 1),
-        Err(Stop::Usage(said)) => (format!("{said}; see exercise --help\n"), 2),
+        Err(Stop::Usage(said)) => (format!("exercise: {said}; see exercise --help\n"), 2),
     };
-    // where standard error is lost too, the status is all that can be said
-    let _ = io::stderr().write_all(said.as_bytes());
+    complain(&said);
     ExitCode::from(status)
 }
 
-fn call(names: &Names, arguments: &[&str]) -> Result<(), Stop> {
-    match arguments {
-        ["--help" | "-h" | "help"] => output(HELP.as_bytes()),
-        ["fields"] => output(listing::fields().as_bytes()),
-        ["registers"] => output(listing::registers().as_bytes()),
-        ["commands"] => output(listing::commands().as_bytes()),
-        ["refusals"] => output(listing::refusals().as_bytes()),
-        ["causes"] => output(listing::causes().as_bytes()),
-        ["run", rest @ ..] => run_file(names, rest),
-        ["check", rest @ ..] => check_files(names, rest),
-        ["bytes", rest @ ..] => bytes(names, rest),
-        ["text", rest @ ..] => text(names, rest),
-        [] => Err(Stop::Usage("exercise: say what is to be done".to_string())),
-        [other, ..] => Err(Stop::Usage(format!("exercise: no such call: {other}"))),
+/// Says something on standard error. Where that is lost too, the status is all that can be said.
+fn complain(said: &str) {
+    let _ = io::stderr().write_all(said.as_bytes());
+}
+
+fn call(arguments: &[OsString]) -> Result<(), Stop> {
+    let (first, rest) = match arguments.split_first() {
+        Some((first, rest)) => (first.to_string_lossy(), rest),
+        None => return usage("say what is to be done"),
+    };
+    if first == "help" || first == "-h" || arguments.iter().any(|a| a == "--help") {
+        return output(HELP.as_bytes());
+    }
+    let names = Names::new();
+    let table = match first.as_ref() {
+        "run" => return run_file(&names, rest),
+        "check" => return check_files(&names, rest),
+        "bytes" => return bytes(&names, rest),
+        "text" => return text(&names, rest),
+        "fields" => listing::fields(),
+        "registers" => listing::registers(),
+        "commands" => listing::commands(),
+        "refusals" => listing::refusals(),
+        "causes" => listing::causes(),
+        other => return usage(format!("no such call: {other}")),
+    };
+    match rest {
+        [] => output(table.as_bytes()),
+        _ => usage(format!("{first} takes nothing more")),
+    }
+}
+
+/// The options of a call, each with its number where it has one, and its files.
+type Parts<'a> = (Vec<(&'static str, usize)>, Vec<&'a OsStr>);
+
+fn parts<'a>(arguments: &'a [OsString], known: &[&'static str]) -> Result<Parts<'a>, Stop> {
+    let (mut options, mut files) = (Vec::new(), Vec::new());
+    let mut rest = arguments.iter();
+    while let Some(argument) = rest.next() {
+        let word = argument.to_string_lossy();
+        match known.iter().find(|option| **option == word) {
+            Some(option) if *option == "--width" => {
+                let number = rest.next().and_then(|number| number.to_str()?.parse().ok());
+                match number {
+                    Some(number) => options.push((*option, number)),
+                    None => return usage("--width wants a number of columns"),
+                }
+            }
+            Some(option) => options.push((*option, 0)),
+            None if word.starts_with('-') && word != "-" => {
+                return usage(format!("no such option here: {word}"));
+            }
+            None => files.push(argument.as_os_str()),
+        }
+    }
+    match options.len() {
+        0 | 1 => Ok((options, files)),
+        _ => usage("one option is enough"),
+    }
+}
+
+/// The only file of a call.
+fn one<'a>(files: &[&'a OsStr]) -> Result<&'a OsStr, Stop> {
+    match files {
+        [file] => Ok(file),
+        [] => usage("the FILE is missing"),
+        _ => usage("one FILE is enough"),
     }
 }
 
 /// The bytes of a file, or of standard input.
-fn input(file: &str) -> Result<Vec<u8>, Stop> {
+fn input(file: &OsStr) -> Result<Vec<u8>, Stop> {
     let mut bytes = Vec::new();
-    let read = match file {
-        "-" => io::stdin().read_to_end(&mut bytes).map(|_| bytes),
-        file => fs::read(file),
+    let read = match file == "-" {
+        true => io::stdin().read_to_end(&mut bytes).map(|_| bytes),
+        false => fs::read(file),
     };
     read.map_err(|error| Stop::Failed(format!("{}: {error}\n", title(file))))
 }
 
-fn title(file: &str) -> &str {
-    if file == "-" {
-        "standard input"
-    } else {
-        file
+fn title(file: &OsStr) -> String {
+    match file == "-" {
+        true => "standard input".to_string(),
+        false => file.to_string_lossy().to_string(),
     }
 }
 
@@ -109,116 +169,103 @@ fn output(bytes: &[u8]) -> Result<(), Stop> {
     })
 }
 
-/// The files of a call whose options are taken off.
-fn files<'a>(arguments: &[&'a str]) -> Result<Vec<&'a str>, Stop> {
-    match arguments.iter().find(|a| a.starts_with('-') && **a != "-") {
-        Some(option) => Err(Stop::Usage(format!("exercise: no such option here: {option}"))),
-        None => Ok(arguments.to_vec()),
-    }
-}
-
-fn one_file<'a>(arguments: &[&'a str]) -> Result<&'a str, Stop> {
-    match files(arguments)?[..] {
-        [file] => Ok(file),
-        _ => Err(Stop::Usage("exercise: one FILE, please".to_string())),
-    }
-}
-
 /// A text without errors. Warnings are said on standard error.
-fn read(names: &Names, file: &str) -> Result<Text, Stop> {
+fn read(names: &Names, file: &OsStr) -> Result<Text, Stop> {
     let text = Text::read(names, &input(file)?);
+    let title = title(file);
     let mut said = String::new();
     let mut errors = 0;
     for row in &text.rows {
         for fault in &row.faults {
-            said.push_str(&fault.shown(title(file), row.number, &row.source));
-            errors += usize::from(!fault.problem.is_warning());
+            said.push_str(&fault.shown(&title, row.number, &row.source));
+            errors += usize::from(fault.is_error());
         }
     }
-    if text.has_errors() {
-        let count = if errors == 1 { "1 error".to_string() } else { format!("{errors} errors") };
-        return Err(Stop::Failed(format!("{said}{}: {count}; nothing was run\n", title(file))));
+    match errors {
+        0 => complain(&said),
+        1 => return Err(Stop::Failed(format!("{said}{title}: 1 error; nothing was run\n"))),
+        _ => {
+            return Err(Stop::Failed(format!("{said}{title}: {errors} errors; nothing was run\n")))
+        }
     }
-    let _ = io::stderr().write_all(said.as_bytes());
     Ok(text)
 }
 
-fn run_file(names: &Names, arguments: &[&str]) -> Result<(), Stop> {
-    let terminal = || terminal::columns().map_or(Width::Wide, Width::Columns);
-    let (width, file) = match arguments {
-        ["--lines", rest @ ..] => {
-            return output(run(&read(names, one_file(rest)?)?).lines.as_bytes());
-        }
-        ["--wide", rest @ ..] => (Width::Wide, one_file(rest)?),
-        ["--narrow", rest @ ..] => (Width::Narrow, one_file(rest)?),
-        ["--width", number, rest @ ..] => match number.parse() {
-            Ok(columns) => (Width::Columns(columns), one_file(rest)?),
-            Err(_) => {
-                return Err(Stop::Usage(format!("exercise: --width wants a number: {number}")))
-            }
-        },
-        rest => (terminal(), one_file(rest)?),
+fn run_file(names: &Names, arguments: &[OsString]) -> Result<(), Stop> {
+    let (options, files) = parts(arguments, &["--lines", "--wide", "--narrow", "--width"])?;
+    let text = read(names, one(&files)?)?;
+    let run = run(&text);
+    let width = match options.first() {
+        Some(("--lines", _)) => return output(run.lines.as_bytes()),
+        Some(("--wide", _)) => Width::Wide,
+        Some(("--narrow", _)) => Width::Narrow,
+        Some((_, columns)) => Width::Columns(*columns),
+        None => terminal::columns().map_or(Width::Wide, Width::Columns),
     };
-    let text = read(names, file)?;
-    output(show(&text, &run(&text), width).as_bytes())
+    output(show(&text, &run, width).as_bytes())
 }
 
-fn check_files(names: &Names, arguments: &[&str]) -> Result<(), Stop> {
-    let files = files(arguments)?;
+fn check_files(names: &Names, arguments: &[OsString]) -> Result<(), Stop> {
+    let (_, files) = parts(arguments, &[])?;
     if files.is_empty() {
-        return Err(Stop::Usage("exercise: check which FILE?".to_string()));
+        return usage("the FILE is missing");
     }
     let mut failed = false;
     for file in files {
         let text = match read(names, file) {
             Ok(text) => text,
             Err(Stop::Failed(said)) => {
-                let _ = io::stderr().write_all(said.as_bytes());
+                complain(&said);
                 failed = true;
                 continue;
             }
-            other => return other.map(|_| ()),
+            Err(stop) => return Err(stop),
         };
         let (same, different) = check(&text, &run(&text));
-        let shown: String = different.iter().map(|d| d.shown(title(file))).collect();
-        let count = different.len();
-        failed |= count > 0;
-        let rest = if count > 0 { format!(", {count} not") } else { String::new() };
+        let shown: String = different.iter().map(|d| d.shown(&title(file))).collect();
         let answers = if same == 1 { "answer" } else { "answers" };
-        let line = format!("{}: {same} {answers} as expected{rest}\n", title(file));
-        output(format!("{shown}{line}").as_bytes())?;
+        let not =
+            if different.is_empty() { String::new() } else { format!(", {} not", different.len()) };
+        failed |= !different.is_empty();
+        output(format!("{shown}{}: {same} {answers} as expected{not}\n", title(file)).as_bytes())?;
     }
-    if failed {
-        return Err(Stop::Failed(String::new()));
+    match failed {
+        true => Err(Stop::Failed(String::new())),
+        false => Ok(()),
     }
-    Ok(())
 }
 
-fn bytes(names: &Names, arguments: &[&str]) -> Result<(), Stop> {
-    let (form, rest) = match arguments {
-        ["--short", rest @ ..] => (Some(true), rest),
-        ["--long", rest @ ..] => (Some(false), rest),
-        rest => (None, rest),
-    };
-    let file = one_file(rest)?;
+fn bytes(names: &Names, arguments: &[OsString]) -> Result<(), Stop> {
+    let (options, files) = parts(arguments, &["--short", "--long"])?;
+    let file = one(&files)?;
     if terminal::is_terminal() {
-        return Err(Stop::Usage("exercise: bytes are for a file or a pipe".to_string()));
+        return usage("bytes are for a file or a pipe");
     }
     let bytes = read(names, file)?.bytes;
-    if form.map_or(true, |short| short == exercise::session::is_short(&bytes)) {
-        return output(&bytes);
-    }
-    let mut other = vec![0; pmu::CONVERT_ROOM];
-    match pmu::convert(&bytes, &mut other) {
-        Ok(other) => output(other),
-        Err(pmu::NotConverted::Short) => unreachable!("a buffer of CONVERT_ROOM bytes"),
-        Err(pmu::NotConverted::Refused(number)) => {
-            let means = exercise::words::words(&format!("refused {number}"));
-            Err(Stop::Failed(format!("{}: there is no other form: {means}\n", title(file))))
-        }
+    let wanted = options.first().map(|(option, _)| *option == "--short");
+    match wanted.filter(|short| *short != is_short(&bytes)) {
+        None => output(&bytes),
+        Some(_) => output(&other_form(&bytes, &title(file))?),
     }
 }
 
-fn text(names: &Names, arguments: &[&str]) -> Result<(), Stop> {
-    output(print::text(names, &input(one_file(arguments)?)?).as_bytes())
+/// The other form, by the proved conversion. A text that is too long only in the long form has a
+/// short one too.
+fn other_form(bytes: &[u8], title: &str) -> Result<Vec<u8>, Stop> {
+    let mut room = vec![0; pmu::CONVERT_ROOM];
+    let refusal = match pmu::convert(bytes, &mut room) {
+        Ok(other) => return Ok(other.to_vec()),
+        Err(pmu::NotConverted::Short) => unreachable!("a buffer of CONVERT_ROOM bytes"),
+        Err(pmu::NotConverted::Refused(number)) => format!("refused {number}"),
+    };
+    let short =
+        shortened(bytes).filter(|short| !is_short(bytes) && is_long(bytes) && !is_long(short));
+    let said =
+        format!("{title}: there is no other form: {}; {}\n", words(&refusal), remedy(&refusal));
+    short.ok_or(Stop::Failed(said))
+}
+
+fn text(names: &Names, arguments: &[OsString]) -> Result<(), Stop> {
+    let (_, files) = parts(arguments, &[])?;
+    output(print::text(names, &input(one(&files)?)?).as_bytes())
 }

@@ -1,8 +1,8 @@
 //! Fields and registers by the names that a text may have for them. Case does not matter, and
-//! `FEAT_` and `_EL0` to `_EL3` may be left out where that leaves one of them.
+//! `FEAT_` and each `_EL0` to `_EL3` may be left out where that leaves one of them.
 
 use crate::near::{meant, near};
-use crate::tables::fields::{Field, FIELDS};
+use crate::tables::fields::{field, Field, FIELDS};
 use crate::tables::registers::{Place, EXTERNALS, REGISTERS};
 use std::collections::HashMap;
 
@@ -14,24 +14,25 @@ pub enum Found<T> {
     None,
 }
 
-/// Names of one kind. `whole` has them in capitals, `short` with parts left out.
+/// Names of one kind, in capitals: whole, and with parts left out.
 struct Index<T> {
     whole: HashMap<String, T>,
-    short: HashMap<String, Vec<(String, T)>>,
-    list: Vec<String>,
+    parts: HashMap<String, Vec<(String, T)>>,
+    list: Vec<(String, T)>,
 }
 
 impl<T: Copy + PartialEq> Index<T> {
     fn new(names: impl Iterator<Item = (String, T)>) -> Index<T> {
-        let mut index = Index { whole: HashMap::new(), short: HashMap::new(), list: Vec::new() };
+        let mut index = Index { whole: HashMap::new(), parts: HashMap::new(), list: Vec::new() };
         for (name, thing) in names.filter(|(name, _)| !name.is_empty()) {
-            index.whole.insert(name.to_uppercase(), thing);
-            let same = index.short.entry(without_parts(&name).to_uppercase()).or_default();
-            if !same.iter().any(|(_, other)| *other == thing) {
-                same.push((name.clone(), thing));
+            for shorter in shorter(&name) {
+                let same = index.parts.entry(shorter.to_uppercase()).or_default();
+                if !same.iter().any(|(_, other)| *other == thing) {
+                    same.push((name.clone(), thing));
+                }
+                index.list.push((shorter, thing));
             }
-            index.list.push(without_parts(&name));
-            index.list.push(name);
+            index.whole.insert(name.to_uppercase(), thing);
         }
         index
     }
@@ -41,32 +42,39 @@ impl<T: Copy + PartialEq> Index<T> {
         if let Some(thing) = self.whole.get(&name) {
             return Found::One(*thing);
         }
-        match self.short.get(&name).map(Vec::as_slice) {
+        match self.parts.get(&name).map(Vec::as_slice) {
             None => Found::None,
             Some([(_, thing)]) => Found::One(*thing),
             Some(several) => Found::Many(several.iter().map(|(name, _)| name.clone()).collect()),
         }
     }
 
-    /// What may have been meant by a name that is none.
-    fn hint(&self, name: &str) -> String {
+    /// Whether a name is a counter's but for its number.
+    fn is_counter(&self, name: &str) -> bool {
         let digit = |c: char| c.is_ascii_digit();
         let start = name.find(digit).unwrap_or(name.len());
         let end = name[start..].find(|c| !digit(c)).map_or(name.len(), |rest| start + rest);
-        let numbered = |m: u8| format!("{}{m}{}", &name[..start], &name[end..]);
-        match (self.find(&numbered(0)), self.find(&numbered(1))) {
-            (Found::One(_), Found::One(_)) => "counters have the numbers 0 to 30".to_string(),
-            _ => meant(&near(name, self.list.iter().map(String::as_str))),
-        }
+        let numbered = |m: u8| self.find(&format!("{}{m}{}", &name[..start], &name[end..]));
+        matches!((numbered(0), numbered(1)), (Found::One(_), Found::One(_)))
+    }
+
+    fn near(&self, name: &str) -> Vec<T> {
+        near(name, self.list.iter().map(|(name, thing)| (name.as_str(), *thing)))
     }
 }
 
-fn without_parts(name: &str) -> String {
-    let mut name = name.strip_prefix("FEAT_").unwrap_or(name).to_string();
-    for part in ["_EL0", "_EL1", "_EL2", "_EL3"] {
-        name = name.replace(part, "").replace(&part.to_lowercase(), "");
+/// A name with each choice of the parts that may be left out, the shortest first.
+fn shorter(name: &str) -> Vec<String> {
+    let parts = ["FEAT_", "_EL0", "_EL1", "_EL2", "_EL3"];
+    let part = parts.iter().filter_map(|part| Some((name.find(part)?, part.len()))).min();
+    match part {
+        None => vec![name.to_string()],
+        Some((at, length)) => {
+            let rest = shorter(&name[at + length..]);
+            let with = |front: &str| rest.iter().map(|r| format!("{front}{r}")).collect::<Vec<_>>();
+            [with(&name[..at]), with(&name[..at + length])].concat()
+        }
     }
-    name
 }
 
 /// The name that a row is printed with: Arm's, or MODEL's where Arm's is a function or there is
@@ -78,10 +86,10 @@ pub fn printed(field: &Field) -> String {
     }
     let register = |f: &Field| f.arm.split('.').next().unwrap_or("");
     let mine = register(field);
-    let same = |f: &Field| register(f) != mine && without_parts(register(f)) == without_parts(mine);
+    let same = |f: &Field| register(f) != mine && shorter(register(f))[0] == shorter(mine)[0];
     match FIELDS.iter().any(same) {
         true => field.arm.to_string(),
-        false => without_parts(field.arm),
+        false => shorter(field.arm)[0].clone(),
     }
 }
 
@@ -98,16 +106,18 @@ pub struct Names {
     printed: HashMap<u8, String>,
 }
 
+/// What is said of the number of a counter that there is not.
+const COUNTERS: &str = "counters have the numbers 0 to 30";
+
 impl Names {
     pub fn new() -> Names {
         let fields = FIELDS.iter().flat_map(|f| {
-            let names =
-                move |m| [(numbered(f.arm, m), f.number + m), (numbered(f.model, m), f.number + m)];
+            let names = move |m| [f.arm, f.model].map(|name| (numbered(name, m), f.number + m));
             (0..f.count).flat_map(names)
         });
-        let registers = REGISTERS.iter().flat_map(|r| {
-            (0..r.count).map(move |m| (numbered(r.name, m).to_lowercase(), r.place.plus(m)))
-        });
+        let registers = REGISTERS
+            .iter()
+            .flat_map(|r| (0..r.count).map(move |m| (numbered(r.name, m), r.place.plus(m))));
         let externals = EXTERNALS.iter().map(|e| (e.name.to_string(), e.offset));
         let printed = FIELDS.iter().flat_map(|f| {
             let name = printed(f);
@@ -136,16 +146,42 @@ impl Names {
         self.externals.find(name)
     }
 
+    /// What may have been meant by a name that is no field's: `PMUACR.P3` is a bit of one.
     pub fn field_hint(&self, name: &str) -> String {
-        self.fields.hint(name)
+        let front = name.trim_end_matches(|c: char| c.is_ascii_digit());
+        let bit = name[front.len()..].parse::<u32>().ok().filter(|bit| *bit < 64);
+        if let (Found::One(number), Some(bit)) = (self.fields.find(front), bit) {
+            if field(number).map_or(false, |f| f.mask && f.largest >> bit & 1 == 1) {
+                return format!(
+                    "bit {bit} of `{}` is 0x{:X}",
+                    self.of_field(number).unwrap_or(""),
+                    1u64 << bit
+                );
+            }
+        }
+        if self.fields.is_counter(name) || self.fields.is_counter(&format!("{name} 0")) {
+            return COUNTERS.to_string();
+        }
+        let names = self.fields.near(name);
+        meant(&names.iter().filter_map(|f| self.of_field(*f)).map(String::from).collect::<Vec<_>>())
     }
 
+    /// The same of registers; some are only reached from outside.
     pub fn register_hint(&self, name: &str) -> String {
-        self.registers.hint(name)
+        if self.registers.is_counter(name) {
+            return COUNTERS.to_string();
+        }
+        if let Found::One(offset) = self.externals.find(name) {
+            return format!("it is reached from outside alone: `read {offset:X}`");
+        }
+        let names = self.registers.near(name);
+        meant(&names.iter().map(|place| self.of_register(*place)).collect::<Vec<_>>())
     }
 
     pub fn external_hint(&self, name: &str) -> String {
-        self.externals.hint(name)
+        let near = self.externals.near(name);
+        let names = EXTERNALS.iter().filter(|e| near.contains(&e.offset));
+        meant(&names.map(|e| e.name.to_string()).collect::<Vec<_>>())
     }
 
     pub fn of_field(&self, number: u8) -> Option<&str> {
@@ -154,7 +190,7 @@ impl Names {
 
     /// The name of a register, or its parts where it is none of the model's.
     pub fn of_register(&self, place: Place) -> String {
-        for r in &REGISTERS {
+        for r in REGISTERS {
             if let Some(m) = (0..r.count).find(|&m| r.place.plus(m) == place) {
                 return numbered(r.name, m).to_lowercase();
             }
@@ -185,16 +221,10 @@ impl Place {
         let name = name.to_lowercase();
         let mut parts = name.strip_prefix('s')?.split('_');
         let mut part = |mark: &str| parts.next()?.strip_prefix(mark)?.parse::<u8>().ok();
-        let place = Place {
-            op0: part("")?,
-            op1: part("")?,
-            crn: part("c")?,
-            crm: part("c")?,
-            op2: part("")?,
-        };
+        let (op0, op1) = (part("")?, part("")?);
+        let place = Place { op0, op1, crn: part("c")?, crm: part("c")?, op2: part("")? };
         // a name with leading zeros or signs, more parts or larger numbers is none
-        let held =
-            (2..=3).contains(&place.op0) && place.op1 < 8 && place.crn < 16 && place.crm < 16;
+        let held = (2..=3).contains(&op0) && op1 < 8 && place.crn < 16 && place.crm < 16;
         (held && place.op2 < 8 && place.parts() == name).then_some(place)
     }
 }

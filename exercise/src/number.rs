@@ -1,6 +1,6 @@
 //! Numbers in a text: decimal, or 0x and hexadecimal.
 
-use crate::fault::Problem;
+use crate::fault::Error;
 
 /// The largest number of so many bytes.
 pub fn largest(size: usize) -> u64 {
@@ -23,17 +23,26 @@ pub fn hexadecimal(text: &str) -> Option<&str> {
     text.strip_prefix("0x").or_else(|| text.strip_prefix("0X"))
 }
 
+/// A hexadecimal number of so many digits: all of them, or 0x and as many as it needs.
+pub fn fixed(text: &str, count: usize) -> Option<u64> {
+    let number = match hexadecimal(text) {
+        Some(rest) => digits(rest, 16)??,
+        None => digits(text, 16).filter(|_| text.len() == count)??,
+    };
+    (format!("{number:X}").len() <= count).then_some(number)
+}
+
 /// A number that so many bytes hold. `what` is what it is the number of.
-pub fn number(text: &str, what: &'static str, size: usize) -> Result<u64, Problem> {
+pub fn number(text: &str, what: &'static str, size: usize) -> Result<u64, Error> {
     let found = match hexadecimal(text) {
         Some(rest) => digits(rest, 16),
         None => digits(text, 10),
     };
     let largest = largest(size);
     match found {
-        None => Err(Problem::NoNumber(text.to_string())),
+        None => Err(Error::NoNumber { word: text.to_string() }),
         Some(Some(number)) if number <= largest => Ok(number),
-        Some(_) => Err(Problem::TooLarge { what, largest }),
+        Some(_) => Err(Error::TooLarge { what, most: largest.to_string() }),
     }
 }
 

@@ -32,9 +32,14 @@ pub fn is_short(bytes: &[u8]) -> bool {
     bytes.first() == Some(&SHORT)
 }
 
+/// MODEL R6 and Z1: how many bytes a session may have, the one before a short one too.
+pub fn limit(bytes: &[u8]) -> usize {
+    LIMIT + usize::from(is_short(bytes))
+}
+
 /// MODEL R6: whether a session is too long to be run.
 pub fn is_long(bytes: &[u8]) -> bool {
-    bytes.len() > LIMIT + usize::from(is_short(bytes))
+    bytes.len() > limit(bytes)
 }
 
 /// MODEL S4: a piece for each line that is printed, if the session is not too long.
@@ -84,4 +89,21 @@ pub fn bytes_of(command: &Command, operands: &[u64]) -> Vec<u8> {
 pub fn shortest(name: &str, operands: &[u64], short: bool) -> Option<&'static Command> {
     let holds = |c: &Command| c.operands.iter().zip(operands).all(|(o, v)| *v <= largest(o.size()));
     COMMANDS.iter().find(|c| c.name == name && c.is_in(short) && holds(c))
+}
+
+/// MODEL Z4: the short form of a long session that comes to its end, however long it is. The proved
+/// conversion asks for one that can be run.
+pub fn shortened(bytes: &[u8]) -> Option<Vec<u8>> {
+    let pieces = pieces(bytes);
+    let mut short = vec![SHORT];
+    for piece in &pieces {
+        match piece.kind {
+            Kind::Command(command) => {
+                let values = operands(command, &bytes[piece.start..piece.end]);
+                short.extend(bytes_of(shortest(command.name, &values, true)?, &values));
+            }
+            Kind::Unknown | Kind::Cut => return None,
+        }
+    }
+    Some(short)
 }

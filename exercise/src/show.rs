@@ -2,7 +2,7 @@
 
 use crate::fault::plain;
 use crate::run::Run;
-use crate::text::{Row, Text};
+use crate::text::{Fate, Row, Text};
 use crate::words::words;
 
 /// How wide it may be.
@@ -38,19 +38,23 @@ struct Layout {
     below: bool,
 }
 
+/// What stands for the end of a text that has no end command.
+pub const ENDS: &str = "(the text ends)";
+
 /// The text with the answers in words.
 pub fn show(text: &Text, run: &Run, width: Width) -> String {
-    let lines: Vec<String> = text.rows.iter().map(shown).collect();
-    let answered = lines.iter().zip(&run.answers).filter(|(_, answers)| !answers.is_empty());
+    let rows: Vec<(String, Vec<String>)> =
+        text.rows.iter().map(|row| (shown(row), said(row, run))).collect();
+    let answered = rows.iter().filter(|(_, said)| !said.is_empty());
     let longest = answered.map(|(line, _)| line.chars().count()).max().unwrap_or(0);
-    let left = 2 + text.rows.len().to_string().len().max(2);
+    let left = 2 + rows.len().to_string().len().max(2);
     let layout = Layout::new(left, longest, width);
     let mut out = String::new();
-    for (row, line) in text.rows.iter().zip(&lines) {
-        layout.row(&mut out, &row.number.to_string(), line, &said(row, text, run));
+    for (index, (line, said)) in rows.iter().enumerate() {
+        layout.row(&mut out, &(index + 1).to_string(), line, said);
     }
     if let Some(answer) = &run.behind {
-        layout.row(&mut out, "", "(the text ends)", &[words(&answer.text)]);
+        layout.row(&mut out, "", ENDS, &[words(answer)]);
     }
     out
 }
@@ -61,15 +65,12 @@ fn shown(row: &Row) -> String {
 }
 
 /// The answers of a line in words, or why it has none.
-fn said(row: &Row, text: &Text, run: &Run) -> Vec<String> {
-    let answers = &run.answers[row.number - 1];
-    if !answers.is_empty() {
-        return answers.iter().map(|answer| words(&answer.text)).collect();
+fn said(row: &Row, run: &Run) -> Vec<String> {
+    match row.fate {
+        Fate::Inside => vec!["(taken by the command before)".to_string()],
+        Fate::NotRead => vec!["(not read)".to_string()],
+        _ => run.answers[row.number - 1].iter().map(|answer| words(answer)).collect(),
     }
-    if row.bytes.is_empty() || text.is_form(row) || run.too_long {
-        return Vec::new();
-    }
-    vec!["(not read)".to_string()]
 }
 
 impl Layout {
@@ -105,12 +106,13 @@ impl Layout {
             for (index, piece) in
                 wrap(answer, self.columns - column - MARK.len()).iter().enumerate()
             {
-                let mark = if index == 0 { MARK } else { "   " };
                 if !std::mem::take(&mut behind) {
                     lines.push(String::new());
                 }
                 let last = lines.len() - 1;
-                lines[last] = format!("{:<column$}{mark}{piece}", lines[last]);
+                let spaces = " ".repeat(column - lines[last].chars().count());
+                let mark = if index == 0 { MARK } else { "   " };
+                lines[last].push_str(&format!("{spaces}{mark}{piece}"));
             }
         }
         lines.iter().for_each(|line| out.push_str(&format!("{}\n", line.trim_end())));

@@ -20,6 +20,12 @@ pub fn words(text: &str) -> String {
     }
 }
 
+/// What to do about a refusal.
+pub fn remedy(text: &str) -> &'static str {
+    let number = text.split(' ').nth(1).and_then(|number| number.parse().ok());
+    number.and_then(refusal).map_or("", |refusal| refusal.remedy)
+}
+
 fn part(&(part, text): &(Part, &str)) -> String {
     let number = text.parse().unwrap_or(0);
     match part {

@@ -86,11 +86,25 @@ fn nothing_is_wider_than_the_terminal() {
     for (name, input) in examples() {
         let text = Text::read(&names, &input);
         let run = run(&text);
-        for columns in [30, 40, 60, 80, 100, 132] {
+        for columns in [26, 30, 40, 58, 59, 60, 61, 62, 80, 100, 132] {
             let shown = show(&text, &run, Width::Columns(columns));
             let longest = shown.lines().map(|line| line.chars().count()).max().unwrap_or(0);
             assert!(longest <= columns, "{name}: {longest} of {columns} columns");
             assert!(shown.lines().all(|line| line == line.trim_end()), "{name}");
+        }
+    }
+}
+
+/// However narrow, it is shown, in as few columns as there can be.
+#[test]
+fn any_width() {
+    let names = Names::new();
+    for input in ["end", "tick # a", "tick\nend\nend\nbytes 01", "bytes 02 01 02 01\nend", ""] {
+        let text = Text::read(&names, input.as_bytes());
+        let run = run(&text);
+        for columns in (0..70).chain([usize::MAX]) {
+            let shown = show(&text, &run, Width::Columns(columns));
+            assert!(shown.lines().all(|line| line.chars().count() <= columns.max(24)), "{shown}");
         }
     }
 }
@@ -123,4 +137,20 @@ fn wide_and_narrow() {
         |width| show(&text, &run(&text), width).lines().map(String::from).collect::<Vec<_>>();
     assert_eq!(shown(Width::Wide), wide);
     assert_eq!(shown(Width::Narrow), narrow);
+}
+
+/// Lines that have no answer of their own.
+#[test]
+fn lines_without_an_answer() {
+    let names = Names::new();
+    let text = Text::read(&names, b"bytes 02\nbytes 01\nbytes 06 00 00\ntick\n");
+    let wide = [
+        " 1  bytes 02        -> ok",
+        " 2  bytes 01        -> (taken by the command before)",
+        " 3  bytes 06 00 00  -> ok",
+        "                    -> end",
+        " 4  tick            -> (not read)",
+    ];
+    let shown = show(&text, &run(&text), Width::Wide);
+    assert_eq!(shown.lines().collect::<Vec<_>>(), wide);
 }

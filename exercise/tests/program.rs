@@ -64,6 +64,23 @@ standard input:6: mrs x2, pmevcntr2_el0
 standard input: 5 answers as expected, 2 not
 ";
     assert_eq!((out.as_str(), error.as_str(), status), (shown, "", 1));
+    // an end that is not read, and one that is missing
+    let (out, _, status) = all(&["check", "-"], "tick\nend\nend\n");
+    let shown = "\
+standard input:3: end
+    expected: end (there is no #>)
+    answered: nothing
+standard input: 2 answers as expected, 1 not
+";
+    assert_eq!((out.as_str(), status), (shown, 1));
+    let (out, _, status) = all(&["check", "-"], "tick\n");
+    let shown = "\
+standard input:1: (the text ends)
+    expected: nothing
+    answered: refused 2: the bytes end inside a command, or without an end
+standard input: 1 answer as expected, 1 not
+";
+    assert_eq!((out.as_str(), status), (shown, 1));
 }
 
 /// What an expected answer leaves out is not compared, and 0x is as good as all digits.
@@ -151,7 +168,8 @@ fn bytes_and_text() {
     }
     let (out, error, status) = all(&["bytes", "--short", "-"], "tick\nbytes 09\n");
     let refused = "standard input: there is no other form: \
-        refused 1: no such command; nothing behind it was read\n";
+        refused 1: no such command; nothing behind it was read; \
+        has the command before it all its bytes? 11 and 12 want `short` first\n";
     assert_eq!((out.as_str(), error.as_str(), status), ("", refused, 1));
 }
 
@@ -162,14 +180,14 @@ fn tables_and_help() {
         ("registers", "\npmevcntr<m>_el0  3    3    14   8-11  0-7  event counter m"),
         ("registers", "\nPMOVSCLR_EL0       C80     overflow flags; write clears\n"),
         ("commands", "\nmsr REGISTER, Xt = VALUE  03    writes one"),
-        ("refusals", "\n13  EL2 is implemented, and HPMN is above N\n    - lower HPMN"),
-        ("causes", "\n4   MDCR_EL2.HPMN       27 to a number above"),
+        ("refusals", "\n13  EL2 is implemented, and HPMN is above N\n    - lower MDCR_EL2.HPMN"),
+        ("causes", "\n3   MDCR_EL2.TPM        `set MDCR_EL2.TPM 0`\n"),
         ("--help", "\nexercise bytes [--short | --long] FILE\n"),
     ] {
         let (out, error, status) = all(&[call], "");
         assert!(out.contains(part), "{out}");
         assert_eq!((error.as_str(), status), ("", 0));
-        assert!(out.lines().all(|line| line.chars().count() <= 100), "{out}");
+        assert!(out.lines().all(|line| line.chars().count() <= 80), "{out}");
     }
 }
 
@@ -183,6 +201,7 @@ fn wrong_calls() {
         &["run", "--quick", "a"],
         &["run", "--width", "a", "b"],
         &["run", "--width"],
+        &["run", "--wide", "--narrow", "a"],
         &["check"],
         &["check", "--all", "-"],
         &["bytes"],
@@ -193,6 +212,84 @@ fn wrong_calls() {
         assert_eq!((out.as_str(), status), ("", 2), "{call:?}");
         assert!(error.ends_with("; see exercise --help\n"), "{error}");
     }
+}
+
+/// Options may stand behind the file, and help may be asked for anywhere.
+#[test]
+fn options_anywhere() {
+    assert_eq!(all(&["run", "-", "--lines"], WORKED), (LINES.to_string(), String::new(), 0));
+    let short = exercise(&["bytes", "-", "--short"], WORKED.as_bytes()).stdout;
+    assert_eq!(short.first(), Some(&0x10));
+    let help = all(&["--help"], "");
+    assert_eq!(all(&["run", "--help"], ""), help);
+    assert_eq!(all(&["help"], ""), help);
+}
+
+/// A text that is too long in the long form alone has a short form.
+#[test]
+fn a_long_text_is_shortened() {
+    let text = format!("{}end\n", "set PMUv3 1\n".repeat(500));
+    let short = exercise(&["bytes", "--short", "-"], text.as_bytes());
+    assert_eq!((short.stdout.len(), short.status.code()), (1 + 3 * 500 + 1, Some(0)));
+    let twice = format!("{}end\n", "set PMUv3 1\n".repeat(1500));
+    let (out, error, status) = all(&["bytes", "--short", "-"], &twice);
+    assert_eq!((out.as_str(), status), ("", 1));
+    assert!(error.contains("there is no other form: refused 6"), "{error}");
+}
+
+/// Every command has a name in the text of its bytes, but those that no name has.
+#[test]
+fn text_names_commands() {
+    let text = "\
+set PMUACR.P 0x7FFFFFFF
+set PMEVTYPER30.evtCount 0xFFFF
+set EL2 implemented 1
+set NVMem[0x838] 9999
+set 0xF0 1
+level 3
+mrs x30, pmevcntr31_el0
+mrs xzr, pmicntr_el0
+msr pmswinc_el0, x1 = 0x18
+msr pmsicr_el1, xzr
+mrs x0, s2_3_c9_c12_4
+access D503201F = 5
+read C80
+write CC0 0x1F
+tick
+tick prohibited
+06 02
+back
+sample 255
+end
+bytes 02 01  # not read
+";
+    let bytes = exercise(&["bytes", "-"], text.as_bytes()).stdout;
+    assert_eq!(said(&exercise(&["text", "-"], &bytes).stdout), text);
+}
+
+/// Lines and names that are longer than anybody writes.
+#[test]
+fn long_lines() {
+    let comment = format!("end # {}\n", "x".repeat(70_000));
+    let bytes = format!("bytes{}\nend\n", " 07".repeat(4_000));
+    let many = format!("set {} 1\nend{}\n", "a ".repeat(20_000), " #> ok".repeat(20_000));
+    for (text, expected) in [(comment, 0), (bytes, 0), (many, 1)] {
+        for call in [&["run", "-"][..], &["run", "--width", "80", "-"], &["run", "--narrow", "-"]] {
+            let (_, _, status) = all(call, &text);
+            assert_eq!(status, expected, "{call:?}");
+        }
+    }
+}
+
+/// A file's name may be any bytes.
+#[test]
+fn names_of_files() {
+    use std::os::unix::ffi::OsStrExt;
+    let name = std::ffi::OsStr::from_bytes(b"\xFF.txt");
+    let output = Command::new(env!("CARGO_BIN_EXE_exercise")).arg("run").arg(name).output();
+    let output = output.expect("the program");
+    assert_eq!(output.status.code(), Some(1));
+    assert!(said(&output.stderr).contains(".txt: "), "{}", said(&output.stderr));
 }
 
 #[test]

@@ -3,7 +3,7 @@
 use exercise::names::Names;
 use exercise::print;
 use exercise::run::run;
-use exercise::session::is_long;
+use exercise::session::{is_long, is_short, shortened};
 use exercise::text::Text;
 use reference::{directed, generate, notation, session};
 
@@ -112,18 +112,36 @@ fn any_bytes() {
     }
 }
 
-/// Every word that moves a system register, by a stride that meets all parts, and words like it.
+/// Words that move system registers, by a stride that meets all parts, and words like them.
 #[test]
 fn any_word() {
     let names = Names::new();
-    let fixed = 0x354u32 << 22;
     for low in (0..1u32 << 22).step_by(7) {
-        for word in [fixed | low, (0x355 << 22) | low] {
-            let text = exercise::instruction::text(&names, word, 9);
+        for high in [0x354, 0x355] {
             let mut session = vec![3];
-            session.extend(word.to_le_bytes());
+            session.extend((high << 22 | low).to_le_bytes());
             session.extend(9u64.to_le_bytes());
-            assert_eq!(bytes(&names, &text), session, "{text}");
+            there_and_back(&names, &session);
         }
     }
+}
+
+/// MODEL Z4: the short form that is made here is that of the proved conversion.
+#[test]
+fn shortened_is_converted() {
+    let mut room = vec![0; pmu::CONVERT_ROOM];
+    let mut compared = 0;
+    for index in 0..5_000 {
+        let bytes = generate::session(SEED, index);
+        if is_short(&bytes) {
+            continue;
+        }
+        if let Ok(short) = pmu::convert(&bytes, &mut room) {
+            assert_eq!(shortened(&bytes).as_deref(), Some(short));
+            compared += 1;
+        } else {
+            assert!(is_long(&bytes) || shortened(&bytes).is_none());
+        }
+    }
+    assert!(compared > 1_000, "only {compared} sessions");
 }

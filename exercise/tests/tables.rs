@@ -1,17 +1,23 @@
 //! The tables of the program are those of docs/MODEL.md, row by row.
 
-use exercise::tables::answers::ANSWERS;
+use exercise::names::Names;
+use exercise::tables::answers::{Part, ANSWERS};
 use exercise::tables::commands::{COMMANDS, LIMIT, SHORT};
 use exercise::tables::fields::FIELDS;
 use exercise::tables::refusals::{CAUSES, REFUSALS};
 use exercise::tables::registers::{EXTERNALS, REGISTERS};
+use exercise::text::Text;
+use std::collections::BTreeMap;
+
+fn model() -> String {
+    let path = concat!(env!("CARGO_MANIFEST_DIR"), "/../docs/MODEL.md");
+    std::fs::read_to_string(path).expect("MODEL.md")
+}
 
 /// The rows of MODEL.md whose first cell is a clause that begins with these, as cells behind it.
 fn rows(clauses: &[&str]) -> Vec<Vec<String>> {
-    let path = concat!(env!("CARGO_MANIFEST_DIR"), "/../docs/MODEL.md");
-    let text = std::fs::read_to_string(path).expect("MODEL.md");
     let mut rows = Vec::new();
-    for line in text.lines().filter(|line| line.starts_with("| ")) {
+    for line in model().lines().filter(|line| line.starts_with("| ")) {
         let cells: Vec<String> =
             line.trim_matches('|').split('|').map(|cell| cell.trim().replace('`', "")).collect();
         let clause = cells[0].trim_matches('*');
@@ -52,13 +58,16 @@ fn fields() {
         model.push((first, last - first + 1, largest(&row[2]), name));
         let field = FIELDS.iter().find(|f| f.number == first).expect("the field");
         let rest = row[3].strip_prefix(field.arm).expect(&row[3]);
-        let ends = rest.is_empty() || rest.starts_with([',', ':', '<']);
-        assert!(ends || field.arm.is_empty(), "{}", row[3]);
+        // three have no name in Arm's manual
+        let named = !field.arm.is_empty() && (rest.is_empty() || rest.starts_with([',', ':', '<']));
+        assert!(named || [0x0B, 0x83, 0x8B].contains(&first), "{}", row[3]);
     }
     model.sort();
     let ours: Vec<(u8, u8, u64, String)> =
         FIELDS.iter().map(|f| (f.number, f.count, f.largest, f.model.to_string())).collect();
     assert_eq!(ours, model);
+    let masks: Vec<u8> = FIELDS.iter().filter(|f| f.mask).map(|f| f.number).collect();
+    assert_eq!(masks, [0x32, 0x34, 0x37]);
 }
 
 #[test]
@@ -81,8 +90,7 @@ fn registers() {
 
 #[test]
 fn external_registers() {
-    let path = concat!(env!("CARGO_MANIFEST_DIR"), "/../docs/MODEL.md");
-    let text = std::fs::read_to_string(path).expect("MODEL.md");
+    let text = model();
     let rows: Vec<&str> = text
         .lines()
         .skip_while(|line| !line.starts_with("| offset, in hexadecimal |"))
@@ -128,17 +136,75 @@ fn those_of_one_name_are_in_the_order_of_their_sizes() {
     }
 }
 
+/// MODEL L1: an answer's words, and how many digits those have that are not decimal.
 #[test]
 fn answers() {
-    let mut model: Vec<String> = rows(&["L1"])
-        .iter()
-        .map(|row| row[1].split([' ', ':']).next().unwrap_or("").to_string())
-        .collect();
-    let mut ours: Vec<String> = ANSWERS.iter().map(|a| a.word.to_string()).collect();
-    model.sort();
-    model.dedup();
-    ours.sort();
+    let mut model: BTreeMap<String, Vec<Option<usize>>> = BTreeMap::new();
+    for row in rows(&["L1"]) {
+        let mut words = row[1].split(':').next().unwrap_or("").split(' ');
+        let word = words.next().unwrap_or("").to_string();
+        let parts = words.map(|part| Some(part.len()).filter(|length| *length > 1)).collect();
+        let longest = model.entry(word).or_insert_with(Vec::new);
+        *longest = std::mem::take(longest).max(parts);
+    }
+    let part = |part: &Part| part.digits();
+    let ours: BTreeMap<String, Vec<Option<usize>>> =
+        ANSWERS.iter().map(|a| (a.word.to_string(), a.parts.iter().map(part).collect())).collect();
     assert_eq!(ours, model);
+}
+
+/// What is said to be done can be done: each command between backticks is one.
+#[test]
+fn remedies_are_commands() {
+    let names = Names::new();
+    let said = REFUSALS.iter().map(|r| r.remedy).chain(CAUSES.iter().map(|c| c.opened));
+    let mut commands = 0;
+    for remedy in said {
+        for command in remedy.split('`').skip(1).step_by(2).filter(|c| c.starts_with("set ")) {
+            let text = Text::read(&names, format!("{command}\nend\n").as_bytes());
+            let faults: Vec<_> = text.rows.iter().flat_map(|row| &row.faults).collect();
+            assert!(faults.is_empty(), "{command}: {faults:?}");
+            commands += 1;
+        }
+    }
+    assert!(commands >= 15, "only {commands}");
+}
+
+/// The number of the field that a text sets by a name, if it is one's.
+fn set(names: &Names, name: &str) -> Option<u8> {
+    let text = Text::read(names, format!("set {name} 1\nend\n").as_bytes());
+    (!text.has_errors()).then(|| text.bytes[1])
+}
+
+/// Every name of every field: Arm's and MODEL's, in any case, with each choice of the parts that may
+/// be left out, and its number.
+#[test]
+fn names_of_fields() {
+    let names = Names::new();
+    let mut ambiguous = Vec::new();
+    for field in FIELDS {
+        for m in 0..field.count {
+            let number = field.number + m;
+            let of_row = [field.arm, field.model].map(|n| n.replace("<m>", &m.to_string()));
+            let mut all: Vec<String> = of_row.into_iter().filter(|n| !n.is_empty()).collect();
+            for part in ["FEAT_", "_EL0", "_EL1", "_EL2", "_EL3"] {
+                let without: Vec<String> =
+                    all.iter().map(|name| name.replacen(part, "", 1)).collect();
+                all.extend(without);
+            }
+            all.extend([format!("{number:02X}"), format!("0x{number:X}")]);
+            for name in all {
+                for name in [name.to_lowercase(), name.to_uppercase(), name] {
+                    match set(&names, &name) {
+                        Some(found) => assert_eq!(found, number, "{name}"),
+                        None => ambiguous.push(name),
+                    }
+                }
+            }
+        }
+    }
+    ambiguous.retain(|name| name.to_uppercase() != "MDCR.TPM");
+    assert_eq!(ambiguous, Vec::<String>::new());
 }
 
 #[test]

@@ -1,4 +1,7 @@
-//! MODEL L1 and L3: the answers of a session's lines, word by word. A later one is a row here.
+//! The answers of a session's lines, word by word, table L of docs/MODEL.md. A later one is a row
+//! here, and its words are kinds of `Part`.
+
+use super::refusals::{cause, refusal};
 
 /// A word behind the first of an answer.
 #[derive(Clone, Copy, Debug, PartialEq, Eq)]
@@ -27,6 +30,17 @@ impl Part {
         }
     }
 
+    /// Whether a decimal one can be that number.
+    pub fn holds(self, number: u64) -> bool {
+        match self {
+            Part::Target => (1..=3).contains(&number),
+            Part::Cause => cause(number).is_some(),
+            Part::Xt => number <= 31,
+            Part::Refusal => refusal(number).is_some(),
+            Part::Syndrome | Part::Value => true,
+        }
+    }
+
     /// What it is called.
     pub fn name(self) -> &'static str {
         match self {
@@ -50,7 +64,7 @@ const fn row(word: &'static str, parts: &'static [Part], means: &'static str) ->
     Answer { word, parts, means }
 }
 
-pub const ANSWERS: [Answer; 9] = [
+pub const ANSWERS: &[Answer] = &[
     row("ok", &[], "ok"),
     row("sampled", &[], "sampled: the member is selected"),
     row("end", &[], "end"),

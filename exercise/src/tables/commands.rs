@@ -1,5 +1,5 @@
-//! MODEL S1 and Z2: the commands, by byte and by name. A later command is a row here, and its
-//! operands are kinds of `Operand`.
+//! The commands by byte and by name, tables S and Z of docs/MODEL.md, and what else may begin a line
+//! of text. A later command is a row here, and its operands are kinds of `Operand`.
 
 /// What an operand says, and so how it is written in a text.
 #[derive(Clone, Copy, Debug, PartialEq, Eq)]
@@ -49,7 +49,7 @@ use Operand::{Draw, Field, Level, Offset, Prohibited, Value, Word};
 const SET: &[(&str, &str)] = &[("set FIELD VALUE", "puts a value into a field of the machine")];
 
 /// Those of one name stand in the order of their sizes.
-pub const COMMANDS: [Command; 11] = [
+pub const COMMANDS: &[Command] = &[
     Command {
         byte: 0x11,
         model: "set",
@@ -146,6 +146,19 @@ pub const COMMANDS: [Command; 11] = [
         usage: &[("end", "ends the session")],
     },
 ];
+
+/// Lines that are no command by name: how they are written, the byte, and what they are for.
+pub const LINES: &[(&str, &str, &str)] = &[
+    ("short", "10", "the short form; stands before all commands"),
+    ("bytes 01 0C v:2", "", "any bytes, as they are"),
+    ("01 0C v:2", "", "one whole command in bytes; v: is 8 bytes"),
+];
+
+/// The words that begin such lines, and instructions.
+pub const SHORT_WORD: &str = "short";
+pub const BYTES_WORD: &str = "bytes";
+pub const MRS: &str = "mrs";
+pub const MSR: &str = "msr";
 
 /// The byte of the end command.
 pub const END: u8 = 0x00;

@@ -1,4 +1,4 @@
-//! MODEL F2 to F24: the fields of the machine record. A later field is a row here.
+//! The fields of the machine record, table F of docs/MODEL.md. A later field is a row here.
 
 /// A field, or as many with consecutive numbers: `<m>` in a name stands for 0 and up.
 pub struct Field {
@@ -8,10 +8,30 @@ pub struct Field {
     pub arm: &'static str,
     /// In docs/MODEL.md.
     pub model: &'static str,
-    /// All bits that it can hold. A value with another one is above its largest.
     pub largest: u64,
-    /// Whether it has a bit for each counter, and is printed so.
+    /// Whether it has a bit for each counter: it is printed so, and a bit that its largest value
+    /// does not have is none of its bits.
     pub mask: bool,
+}
+
+/// Why a field can't hold a value.
+#[derive(Debug, PartialEq, Eq)]
+pub enum Unheld {
+    Above,
+    /// The highest bit that it has not.
+    NoBit(u32),
+}
+
+impl Field {
+    /// MODEL R4: whether it can't hold a value, and why.
+    pub fn refuses(&self, value: u64) -> Option<Unheld> {
+        let others = value & !self.largest;
+        match self.mask && others != 0 {
+            _ if value > self.largest => Some(Unheld::Above),
+            true => Some(Unheld::NoBit(63 - others.leading_zeros())),
+            false => None,
+        }
+    }
 }
 
 const fn bit(number: u8, arm: &'static str, model: &'static str) -> Field {
@@ -30,7 +50,7 @@ const fn many(number: u8, arm: &'static str, model: &'static str, largest: u64) 
     Field { number, count: 31, arm, model, largest, mask: false }
 }
 
-pub const FIELDS: [Field; 64] = [
+pub const FIELDS: &[Field] = &[
     bit(0x00, "FEAT_PMUv3", "PMUv3"),
     bit(0x01, "FEAT_PMUv3p5", "p5"),
     bit(0x02, "FEAT_PMUv3p9", "p9"),

@@ -1,4 +1,4 @@
-//! MODEL R1 to R20: the refusals. MODEL D1 to D9: the causes of traps. A later one is a row here.
+//! The refusals and the causes of traps, tables R and D of docs/MODEL.md. A later one is a row here.
 
 pub struct Refusal {
     pub number: u8,
@@ -10,7 +10,7 @@ const fn row(number: u8, means: &'static str, remedy: &'static str) -> Refusal {
     Refusal { number, means, remedy }
 }
 
-pub const REFUSALS: [Refusal; 17] = [
+pub const REFUSALS: &[Refusal] = &[
     row(
         1,
         "no such command; nothing behind it was read",
@@ -27,35 +27,39 @@ pub const REFUSALS: [Refusal; 17] = [
     row(
         6,
         "the session is too long, over 4,096 bytes",
-        "leave out sets to 0, as all is 0 at the start; write `short` first; split it",
+        "leave out sets to 0, as all is 0 at first; begin with `short`; split it",
     ),
     row(
         10,
         "a value in the record is above its largest",
         "not from a session: mend the program that made the record",
     ),
-    row(11, "level 3 without EL3, or 2 while EL2 is not enabled", "set 0A to 1, or 09 and 10"),
-    row(12, "EL2 is enabled and not implemented", "set EL2 implemented (09) to 1"),
-    row(13, "EL2 is implemented, and HPMN is above N", "lower HPMN (27) or raise N (0C)"),
+    row(
+        11,
+        "level 3 without EL3, or 2 while EL2 is not enabled",
+        "`set EL3 implemented 1`; `set EL2 implemented 1`, `set EL2 enabled 1`",
+    ),
+    row(12, "EL2 is enabled and not implemented", "`set EL2 implemented 1`"),
+    row(13, "EL2 is implemented, and HPMN is above N", "lower MDCR_EL2.HPMN or raise PMCR.N"),
     row(
         14,
         "EL2 is implemented, and HPMN is 0 without HPMN0",
-        "set HPMN (27) to 1 or more, or HPMN0 (06) to 1",
+        "`set MDCR_EL2.HPMN 1` or more, or `set HPMN0 1`",
     ),
     row(
         15,
         "a counter holds more than 32 bits, and p5 is missing",
-        "set p5 (01) to 1, or the counter to a smaller value",
+        "`set PMUv3p5 1`, or set the counter to a smaller value",
     ),
     row(
         16,
         "level 1 while EL2 is enabled and TGE is 1: there is no EL1 then",
-        "go to level 0 or 2, or set TGE (25) to 0",
+        "go to level 0 or 2, or `set HCR.TGE 0`",
     ),
     row(
         17,
         "p9 without p5; or one of p5, p9, ICNTR and no PMUv3",
-        "set PMUv3 (00) to 1, and for p9 also p5 (01)",
+        "`set PMUv3 1`, and for p9 also `set PMUv3p5 1`",
     ),
     row(
         18,
@@ -65,7 +69,7 @@ pub const REFUSALS: [Refusal; 17] = [
     row(
         19,
         "in the short form, a set with more bytes than its value needs",
-        "write `set`, which takes as few as there can be",
+        "write it by name, which takes as few as there can be",
     ),
     row(
         20,
@@ -84,16 +88,16 @@ const fn by(number: u8, control: &'static str, opened: &'static str) -> Cause {
     Cause { number, control, opened }
 }
 
-pub const CAUSES: [Cause; 9] = [
-    by(1, "PMUSERENR_EL0", "EN (20) to 1; also ER (22) for mrs, SW (21) for PMSWINC"),
-    by(2, "a fine-grained bit", "2C, 2D, 2E, 89 or 8A to 0; for PMICNTR 2F or 30 to 1"),
-    by(3, "MDCR_EL2.TPM", "26 to 0"),
-    by(4, "MDCR_EL2.HPMN", "27 to a number above the counter's and at most N"),
-    by(5, "MDCR_EL3.TPM", "28 to 0"),
-    by(6, "MDCR_EL3.EnPM2", "29 to 1"),
-    by(7, "SCR_EL3.FGTEn2", "2B to 1"),
-    by(8, "MDCR_EL2.TPMS", "86 to 0"),
-    by(9, "MDCR_EL3.NSPB", "88 to 1 while NS (87) is 0, to 3 while it is 1"),
+pub const CAUSES: &[Cause] = &[
+    by(1, "PMUSERENR_EL0", "`set PMUSERENR.EN 1`; ER will do for mrs, SW for PMSWINC"),
+    by(2, "a fine-grained bit", "HDFGRTR (mrs), HDFGWTR (msr): its bit 0; nPMICNTR 1"),
+    by(3, "MDCR_EL2.TPM", "`set MDCR_EL2.TPM 0`"),
+    by(4, "MDCR_EL2.HPMN", "MDCR_EL2.HPMN above the counter's number, at most N"),
+    by(5, "MDCR_EL3.TPM", "`set MDCR_EL3.TPM 0`"),
+    by(6, "MDCR_EL3.EnPM2", "`set MDCR_EL3.EnPM2 1`"),
+    by(7, "SCR_EL3.FGTEn2", "`set SCR.FGTEn2 1`"),
+    by(8, "MDCR_EL2.TPMS", "`set MDCR_EL2.TPMS 0`"),
+    by(9, "MDCR_EL3.NSPB", "`set MDCR_EL3.NSPB 1` while NS is 0; 3 while it is 1"),
 ];
 
 /// What a refusal means.
