@@ -12,6 +12,7 @@ use crate::tables::commands::{command as known, Command, Operand, BYTES_WORD};
 use crate::tables::fields::{field, Unheld};
 use crate::tables::registers::EXTERNALS;
 use crate::text::{Fate, Row, Text};
+use std::ops::Range;
 
 /// Of a command: what is refused whatever the machine is like.
 pub fn command(names: &Names, bytes: &[u8], cursor: &Cursor, short: bool) -> Option<Fault> {
@@ -57,21 +58,30 @@ fn of_operand(names: &Names, command: &Command, values: &[u64], index: usize) ->
     }
 }
 
-/// Where an operand stands. By name the last is the last word, and the first stands before it; in
-/// bytes each has as many words as make up its bytes.
+/// Where an operand stands. By name the last is the last word, and the first stands before it and
+/// before `=`; in bytes it is the words that its bytes are of.
 fn place(tokens: &[Token], command: &Command, index: usize) -> Span {
-    let last = tokens.len() - 1;
-    let (first, last) = match (is_notation(&tokens[0]), index + 1 == command.operands.len()) {
-        (false, true) => (last, last),
-        (false, false) => (1, last - 1),
-        (true, is_last) => {
-            let before: usize =
-                command.operands[..index].iter().map(|operand| operand.size()).sum();
-            let first = 1 + before;
-            (first, if is_last { last } else { first + command.operands[index].size() - 1 })
-        }
+    let words = match is_notation(&tokens[0]) {
+        true => words_of_bytes(tokens, command, index),
+        false if index + 1 == command.operands.len() => tokens.len() - 1..tokens.len(),
+        false => 1..tokens.len() - 1 - usize::from(tokens[tokens.len() - 2].is("=")),
     };
-    Span { start: tokens[first].span.start, end: tokens[last].span.end }
+    Span { start: tokens[words.start].span.start, end: tokens[words.end - 1].span.end }
+}
+
+fn words_of_bytes(tokens: &[Token], command: &Command, index: usize) -> Range<usize> {
+    let first = 1 + command.operands[..index].iter().map(|operand| operand.size()).sum::<usize>();
+    let behind = first + command.operands[index].size();
+    let mut at = 0;
+    let mut words = tokens.len()..0;
+    for (number, token) in tokens.iter().enumerate() {
+        let size = if token.text.len() == 2 { 1 } else { 8 };
+        if at < behind && at + size > first {
+            words = words.start.min(number)..number + 1;
+        }
+        at += size;
+    }
+    words
 }
 
 /// Of the whole session. Warnings that the text expects, or that are of what is not read, are taken
@@ -88,11 +98,10 @@ pub fn whole(text: &mut Text) {
         }
     }
     let behind = text.rows.iter().position(|row| row.fate == Fate::NotRead);
-    let (long, early) = (is_long(&text.bytes), text.ends_early());
-    let (passing, closing) = (text.passing(), text.closing());
+    let (passing, closing) = (text.passing(), Some(text.closing).filter(|_| text.ends_early()));
     warn(text, behind, Warning::NotRead {});
-    warn(text, passing.filter(|_| long), Warning::Long {});
-    warn(text, Some(closing).filter(|_| early), Warning::NoEnd {});
+    warn(text, passing, Warning::Long {});
+    warn(text, closing, Warning::NoEnd {});
     for Row { faults, expected, .. } in &mut text.rows {
         faults.retain(|fault| !is_expected(&fault.problem, expected));
     }
@@ -111,10 +120,11 @@ fn is_inside(row: &Row, pieces: &[Piece]) -> bool {
     !row.bytes.is_empty() && before > 0 && row.bytes.start < pieces[before - 1].end
 }
 
-/// A warning of what the text says itself: this answer, that none is given, or, of an offset, any.
+/// A warning of what the text says itself: this answer, or that none is given. An offset of no
+/// register answers `other`, or a state refusal before.
 fn is_expected(problem: &Problem, expected: &[Expected]) -> bool {
     let says = |warning: &Warning, e: &Expected| match (warning, warning.answer()) {
-        (Warning::Offset { .. }, _) => true,
+        (Warning::Offset { .. }, _) => e.is("other") || e.text().starts_with("refused"),
         (_, Some(answer)) => e.is(answer),
         (_, None) => e.is_nothing(),
     };

@@ -1,7 +1,7 @@
 //! What `exercise check` does: the answers of a run beside those that the text expects.
 
 use crate::expected::Expected;
-use crate::fault::plain;
+use crate::fault::cut;
 use crate::run::Run;
 use crate::show::ENDS;
 use crate::tables::commands::END;
@@ -28,7 +28,7 @@ pub fn check(text: &Text, run: &Run) -> (usize, Vec<Difference>) {
     let mut same = 0;
     let mut different = Vec::new();
     for (index, row) in text.rows.iter().enumerate() {
-        let behind = run.behind.iter().filter(|_| index == text.closing());
+        let behind = run.behind.iter().filter(|_| index == text.closing);
         let own = run.answers[index].len();
         let answers: Vec<&String> = run.answers[index].iter().chain(behind).collect();
         let wanted = wanted(text, row);
@@ -39,8 +39,7 @@ pub fn check(text: &Text, run: &Run) -> (usize, Vec<Difference>) {
                 continue;
             }
             let is_behind = at >= own && answer.is_some();
-            let line =
-                if is_behind { ENDS.to_string() } else { plain(row.source[..row.shown].trim()) };
+            let line = if is_behind { ENDS.to_string() } else { cut(row.shown.trim()) };
             let expected = expected.map_or("nothing".to_string(), Wanted::text);
             let answered = answer.map_or("nothing".to_string(), |answer| said(answer));
             different.push(Difference { number: row.number, line, expected, answered });

@@ -161,17 +161,36 @@ impl Fault {
         }
     }
 
-    /// The place, the reason, the line, and a mark under what is meant.
+    /// The place, the reason, the line, and a mark under what is meant. Of a long line the part
+    /// around it is shown.
     pub fn shown(&self, file: &str, number: usize, line: &str) -> String {
-        let column = 1 + line[..self.span.start].chars().count();
-        let before = plain(&line[..self.span.start]).chars().count();
-        let marked = plain(&line[..self.span.end]).chars().count();
+        let Span { start, end } = self.span;
+        let column = 1 + line[..start].chars().count();
+        let left = match line.len() > LONG {
+            true => {
+                line[..start].char_indices().rev().take(LONG / 2).last().map_or(start, |(at, _)| at)
+            }
+            false => 0,
+        };
+        let before = plain(&line[left..start]).chars().count();
+        let marked = cut(&line[left..end]).chars().count();
         let marks = "^".repeat(marked.saturating_sub(before).max(1));
-        let (line, reason) = (plain(line), plain(&self.reason()));
+        let (part, reason) = (cut(&line[left..]), cut(&self.reason()));
         format!(
-            "{file}:{number}:{column}: {reason}\n    {line}\n    {}{marks}\n",
+            "{file}:{number}:{column}: {reason}\n    {part}\n    {}{marks}\n",
             " ".repeat(before)
         )
+    }
+}
+
+/// So many characters of a line are shown.
+const LONG: usize = 200;
+
+/// A line as a terminal can show it; of a long one the beginning.
+pub fn cut(line: &str) -> String {
+    match line.char_indices().nth(LONG) {
+        Some((end, _)) => format!("{}..", plain(&line[..end])),
+        None => plain(line),
     }
 }
 

@@ -4,7 +4,7 @@ use crate::fault::{Error, Fault};
 use crate::line::{Cursor, Token};
 use crate::names::{Found, Names};
 use crate::number::{fixed, mask};
-use crate::tables::commands::{MRS, MSR};
+use crate::tables::commands::{ACCESS, MRS, MSR};
 use crate::tables::registers::Place;
 
 /// A word that moves a system register.
@@ -53,23 +53,38 @@ pub fn is_mnemonic(token: &Token) -> bool {
     token.is(MRS) || token.is(MSR)
 }
 
-const MRS_ORDER: &str = "mrs x0, REGISTER";
-const MSR_ORDER: &str = "msr REGISTER, x0 = VALUE";
-
 /// `mrs Xt, REGISTER`, `msr REGISTER, Xt = VALUE`: the word and the operand.
 pub fn parse(names: &Names, cursor: &mut Cursor) -> Result<(u32, u64), Fault> {
     let read = cursor.take("the instruction")?.is(MRS);
+    swapped(names, cursor, read)?;
     let (place, rt) = if read {
-        let rt = register_xt(names, cursor, MRS_ORDER)?;
+        let rt = register_xt(cursor)?;
         comma(cursor)?;
-        (register(names, cursor, MRS_ORDER)?, rt)
+        (register(names, cursor)?, rt)
     } else {
-        let place = register(names, cursor, MSR_ORDER)?;
+        let place = register(names, cursor)?;
         comma(cursor)?;
-        (place, register_xt(names, cursor, MSR_ORDER)?)
+        (place, register_xt(cursor)?)
     };
     let needed = !read && rt != XZR;
     Ok((Move { read, place, rt }.word(), operand(cursor, needed)?))
+}
+
+/// Whether Xt and the register stand in each other's place.
+fn swapped(names: &Names, cursor: &mut Cursor, read: bool) -> Result<(), Fault> {
+    let (first, second) = match cursor.rest() {
+        [first, comma, second, ..] if comma.is(",") => (*first, *second),
+        _ => return Ok(()),
+    };
+    let (xt, register, right) = match read {
+        true => (second, first, "mrs x0, REGISTER"),
+        false => (first, second, "msr REGISTER, x0 = VALUE"),
+    };
+    let is_register = matches!(names.register(register.text), Found::One(_));
+    match number_of_xt(&xt).is_some() && is_register {
+        true => Err(Fault::error(Error::Order { right }, cursor.several(3).span)),
+        false => Ok(()),
+    }
 }
 
 /// `access WORD = VALUE`, any word.
@@ -87,7 +102,7 @@ fn operand(cursor: &mut Cursor, needed: bool) -> Result<u64, Fault> {
         return cursor.take("the value")?.number("the value", 8);
     }
     match cursor.peek() {
-        Some(next) if next.number("", 8).is_ok() => {
+        Some(next) if next.is(",") || next.number("", 8).is_ok() => {
             Err(Fault::error(Error::NoEquals {}, next.span))
         }
         None if needed => Err(Fault::error(Error::NoValue {}, cursor.behind())),
@@ -107,25 +122,20 @@ fn number_of_xt(token: &Token) -> Option<u8> {
         return Some(XZR);
     }
     let number: u8 = token.text.strip_prefix(['x', 'X'])?.parse().ok()?;
-    // leading zeros and signs are not taken
-    (number < XZR && token.is(&xt(number))).then_some(number)
+    // leading zeros and signs are not taken, nor is x31
+    token.is(&xt(number)).then_some(number)
 }
 
-fn register_xt(names: &Names, cursor: &mut Cursor, right: &'static str) -> Result<u8, Fault> {
+fn register_xt(cursor: &mut Cursor) -> Result<u8, Fault> {
     let token = cursor.take("the register Xt")?;
-    number_of_xt(&token).ok_or_else(|| match names.register(token.text) {
-        Found::One(_) => Fault::error(Error::Order { right }, token.span),
-        _ => Fault::error(Error::NoXt { word: token.text.to_string() }, token.span),
-    })
+    let error = || Fault::error(Error::NoXt { word: token.text.to_string() }, token.span);
+    number_of_xt(&token).ok_or_else(error)
 }
 
-fn register(names: &Names, cursor: &mut Cursor, right: &'static str) -> Result<Place, Fault> {
+fn register(names: &Names, cursor: &mut Cursor) -> Result<Place, Fault> {
     let token = cursor.take("the register")?;
     match names.register(token.text) {
         Found::One(place) => Ok(place),
-        _ if number_of_xt(&token).is_some() => {
-            Err(Fault::error(Error::Order { right }, token.span))
-        }
         _ => {
             let error = Error::NoRegister { word: token.text.to_string() };
             Err(Fault::error(error, token.span).with(names.register_hint(token.text)))
@@ -137,7 +147,7 @@ fn register(names: &Names, cursor: &mut Cursor, right: &'static str) -> Result<P
 pub fn text(names: &Names, word: u32, operand: u64) -> String {
     let value = |shown: bool| if shown { format!(" = {}", mask(operand)) } else { String::new() };
     match Move::new(word) {
-        None => format!("access {word:08X}{}", value(operand != 0)),
+        None => format!("{ACCESS} {word:08X}{}", value(operand != 0)),
         Some(Move { read: true, place, rt }) => {
             format!("{MRS} {}, {}{}", xt(rt), names.of_register(place), value(operand != 0))
         }

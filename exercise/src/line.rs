@@ -24,8 +24,6 @@ impl Token<'_> {
 /// A line: what stands before the first `#`, and what stands behind each `#>`.
 pub struct Line<'a> {
     pub code: Span,
-    /// Where the first `#>` begins, or the line ends.
-    pub shown: usize,
     pub expected: Vec<Span>,
     text: &'a str,
 }
@@ -33,17 +31,24 @@ pub struct Line<'a> {
 impl<'a> Line<'a> {
     pub fn new(text: &'a str) -> Line<'a> {
         let code = text.find('#').unwrap_or(text.len());
-        let mut line =
-            Line { code: Span { start: 0, end: code }, shown: text.len(), expected: vec![], text };
+        let mut line = Line { code: Span { start: 0, end: code }, expected: vec![], text };
         let mut at = code;
         while let Some(mark) = text[at..].find("#>") {
             let start = at + mark + 2;
             let end = text[start..].find('#').map_or(text.len(), |next| start + next);
-            line.shown = line.shown.min(start - 2);
             line.expected.push(Span { start, end });
             at = end;
         }
         line
+    }
+
+    /// The line without the answers that it expects.
+    pub fn without_expected(&self) -> String {
+        let starts = std::iter::once(0).chain(self.expected.iter().map(|span| span.end));
+        let ends = self.expected.iter().map(|span| span.start - 2).chain([self.text.len()]);
+        let parts: Vec<&str> =
+            starts.zip(ends).map(|(start, end)| &self.text[start..end]).collect();
+        parts.concat().trim_end().to_string()
     }
 
     /// The words of a part of the line.

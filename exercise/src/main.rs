@@ -47,8 +47,8 @@ expected, `ok` where there is none; what it leaves out at its end is not
 compared.
 
 The exit status is 0 where all went well; 1 where a text has errors, an answer
-is not the expected one, or a file can't be read or written; 2 where the call
-was wrong.
+is not the expected one, a session has no other form, or a file can't be read
+or written; 2 where the call was wrong.
 ";
 
 /// Why the program ends with another status than 0. What is to be said stands inside.
@@ -82,7 +82,7 @@ fn call(arguments: &[OsString]) -> Result<(), Stop> {
         Some((first, rest)) => (first.to_string_lossy(), rest),
         None => return usage("say what is to be done"),
     };
-    if first == "help" || first == "-h" || arguments.iter().any(|a| a == "--help") {
+    if first == "help" || arguments.iter().any(|a| a == "--help" || a == "-h") {
         return output(HELP.as_bytes());
     }
     let names = Names::new();
@@ -172,6 +172,12 @@ fn output(bytes: &[u8]) -> Result<(), Stop> {
 /// A text without errors. Warnings are said on standard error.
 fn read(names: &Names, file: &OsStr) -> Result<Text, Stop> {
     let text = Text::read(names, &input(file)?);
+    warn(&text, file)?;
+    Ok(text)
+}
+
+/// Says what is wrong with a text, and stops where it has errors.
+fn warn(text: &Text, file: &OsStr) -> Result<(), Stop> {
     let title = title(file);
     let mut said = String::new();
     let mut errors = 0;
@@ -181,14 +187,15 @@ fn read(names: &Names, file: &OsStr) -> Result<Text, Stop> {
             errors += usize::from(fault.is_error());
         }
     }
-    match errors {
-        0 => complain(&said),
-        1 => return Err(Stop::Failed(format!("{said}{title}: 1 error; nothing was run\n"))),
-        _ => {
-            return Err(Stop::Failed(format!("{said}{title}: {errors} errors; nothing was run\n")))
+    let count = match errors {
+        0 => {
+            complain(&said);
+            return Ok(());
         }
-    }
-    Ok(text)
+        1 => "1 error".to_string(),
+        _ => format!("{errors} errors"),
+    };
+    Err(Stop::Failed(format!("{said}{title}: {count}; nothing was run\n")))
 }
 
 fn run_file(names: &Names, arguments: &[OsString]) -> Result<(), Stop> {
@@ -241,28 +248,34 @@ fn bytes(names: &Names, arguments: &[OsString]) -> Result<(), Stop> {
     if terminal::is_terminal() {
         return usage("bytes are for a file or a pipe");
     }
-    let bytes = read(names, file)?.bytes;
     let wanted = options.first().map(|(option, _)| *option == "--short");
-    match wanted.filter(|short| *short != is_short(&bytes)) {
-        None => output(&bytes),
-        Some(_) => output(&other_form(&bytes, &title(file))?),
+    let text = Text::read(names, &input(file)?);
+    let short = shortened(&text.bytes).filter(|short| !text.has_errors() && !is_long(short));
+    if wanted == Some(true) && !is_short(&text.bytes) && is_long(&text.bytes) {
+        // too long in the long form alone, of which there is then no warning
+        if let Some(short) = short {
+            return output(&short);
+        }
+    }
+    warn(&text, file)?;
+    match wanted.filter(|short| *short != is_short(&text.bytes)) {
+        None => output(&text.bytes),
+        Some(_) => output(&other_form(&text.bytes, &title(file))?),
     }
 }
 
-/// The other form, by the proved conversion. A text that is too long only in the long form has a
-/// short one too.
+/// The other form, by the proved conversion.
 fn other_form(bytes: &[u8], title: &str) -> Result<Vec<u8>, Stop> {
     let mut room = vec![0; pmu::CONVERT_ROOM];
-    let refusal = match pmu::convert(bytes, &mut room) {
-        Ok(other) => return Ok(other.to_vec()),
+    match pmu::convert(bytes, &mut room) {
+        Ok(other) => Ok(other.to_vec()),
         Err(pmu::NotConverted::Short) => unreachable!("a buffer of CONVERT_ROOM bytes"),
-        Err(pmu::NotConverted::Refused(number)) => format!("refused {number}"),
-    };
-    let short =
-        shortened(bytes).filter(|short| !is_short(bytes) && is_long(bytes) && !is_long(short));
-    let said =
-        format!("{title}: there is no other form: {}; {}\n", words(&refusal), remedy(&refusal));
-    short.ok_or(Stop::Failed(said))
+        Err(pmu::NotConverted::Refused(number)) => {
+            let refusal = format!("refused {number}");
+            let (means, remedy) = (words(&refusal), remedy(&refusal));
+            Err(Stop::Failed(format!("{title}: there is no other form: {means}; {remedy}\n")))
+        }
+    }
 }
 
 fn text(names: &Names, arguments: &[OsString]) -> Result<(), Stop> {

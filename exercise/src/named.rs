@@ -7,20 +7,19 @@ use crate::names::{Found, Names};
 use crate::near::meant_of;
 use crate::number::{digits, fixed, hexadecimal, largest, mask, printed};
 use crate::session::{bytes_of, shortest};
-use crate::tables::commands::{Command, Operand, BYTES_WORD, COMMANDS, MRS, MSR, SHORT_WORD};
+use crate::tables::commands::{
+    Command, Operand, ACCESS, BYTES_WORD, COMMANDS, MRS, MSR, SHORT_WORD,
+};
 use crate::tables::fields::field as field_row;
 
 /// The word that says that a tick is not counted.
 const PROHIBITED: &str = "prohibited";
 
-/// No name of a field has more words.
-const WORDS: usize = 5;
-
 /// The bytes of a command. What follows it is an error.
 pub fn parse(names: &Names, cursor: &mut Cursor, short: bool) -> Result<Vec<u8>, Fault> {
     let (name, operands) = match cursor.peek() {
         Some(first) if instruction::is_mnemonic(&first) => {
-            ("access", access(instruction::parse(names, cursor)?))
+            (ACCESS, access(instruction::parse(names, cursor)?))
         }
         _ => by_name(names, cursor)?,
     };
@@ -102,7 +101,7 @@ fn offset(names: &Names, cursor: &mut Cursor) -> Result<u64, Fault> {
 
 /// A field by as many words as are its name, else by its number.
 fn field(names: &Names, cursor: &mut Cursor) -> Result<u8, Fault> {
-    let words = cursor.rest().iter().take(WORDS).take_while(|token| !token.is("=")).count();
+    let words = cursor.rest().iter().take(names.words).take_while(|token| !token.is("=")).count();
     for count in (1..=words).rev() {
         let tokens = &cursor.rest()[..count];
         let word = tokens.iter().map(|token| token.text).collect::<Vec<_>>().join(" ");
@@ -138,7 +137,7 @@ fn field(names: &Names, cursor: &mut Cursor) -> Result<u8, Fault> {
 /// The words up to the first number are the name that is none.
 fn no_field(names: &Names, first: Token, cursor: &mut Cursor) -> Fault {
     let is_number = |t: &Token| t.is("=") || t.text.starts_with(|c: char| c.is_ascii_digit());
-    let more = cursor.rest().iter().take(WORDS).take_while(|token| !is_number(token));
+    let more = cursor.rest().iter().take(names.words).take_while(|token| !is_number(token));
     let words: Vec<Token> = std::iter::once(first).chain(more.copied()).collect();
     let word = words.iter().map(|token| token.text).collect::<Vec<_>>().join(" ");
     let span = Span { start: first.span.start, end: words[words.len() - 1].span.end };

@@ -26,19 +26,19 @@ impl<T: Copy + PartialEq> Index<T> {
         let mut index = Index { whole: HashMap::new(), parts: HashMap::new(), list: Vec::new() };
         for (name, thing) in names.filter(|(name, _)| !name.is_empty()) {
             for shorter in shorter(&name) {
-                let same = index.parts.entry(shorter.to_uppercase()).or_default();
+                let same = index.parts.entry(shorter.to_ascii_uppercase()).or_default();
                 if !same.iter().any(|(_, other)| *other == thing) {
                     same.push((name.clone(), thing));
                 }
                 index.list.push((shorter, thing));
             }
-            index.whole.insert(name.to_uppercase(), thing);
+            index.whole.insert(name.to_ascii_uppercase(), thing);
         }
         index
     }
 
     fn find(&self, name: &str) -> Found<T> {
-        let name = name.to_uppercase();
+        let name = name.to_ascii_uppercase();
         if let Some(thing) = self.whole.get(&name) {
             return Found::One(*thing);
         }
@@ -55,7 +55,9 @@ impl<T: Copy + PartialEq> Index<T> {
         let start = name.find(digit).unwrap_or(name.len());
         let end = name[start..].find(|c| !digit(c)).map_or(name.len(), |rest| start + rest);
         let numbered = |m: u8| self.find(&format!("{}{m}{}", &name[..start], &name[end..]));
-        matches!((numbered(0), numbered(1)), (Found::One(_), Found::One(_)))
+        let there =
+            name[start..end].parse::<u8>().map_or(false, |m| matches!(numbered(m), Found::One(_)));
+        !there && matches!((numbered(0), numbered(1)), (Found::One(_), Found::One(_)))
     }
 
     fn near(&self, name: &str) -> Vec<T> {
@@ -104,6 +106,8 @@ pub struct Names {
     externals: Index<u16>,
     /// The name that each field is printed with.
     printed: HashMap<u8, String>,
+    /// How many words a field's name has at most.
+    pub words: usize,
 }
 
 /// What is said of the number of a counter that there is not.
@@ -128,6 +132,7 @@ impl Names {
             registers: Index::new(registers),
             externals: Index::new(externals),
             printed: printed.collect(),
+            words: FIELDS.iter().map(|f| f.model.split(' ').count()).max().unwrap_or(1),
         }
     }
 
@@ -159,7 +164,7 @@ impl Names {
                 );
             }
         }
-        if self.fields.is_counter(name) || self.fields.is_counter(&format!("{name} 0")) {
+        if self.fields.is_counter(name) || self.fields.is_counter(&format!("{name} 999")) {
             return COUNTERS.to_string();
         }
         let names = self.fields.near(name);
@@ -172,7 +177,7 @@ impl Names {
             return COUNTERS.to_string();
         }
         if let Found::One(offset) = self.externals.find(name) {
-            return format!("it is reached from outside alone: `read {offset:X}`");
+            return format!("it is reached from outside alone, at {offset:X}");
         }
         let names = self.registers.near(name);
         meant(&names.iter().map(|place| self.of_register(*place)).collect::<Vec<_>>())
@@ -192,7 +197,7 @@ impl Names {
     pub fn of_register(&self, place: Place) -> String {
         for r in REGISTERS {
             if let Some(m) = (0..r.count).find(|&m| r.place.plus(m) == place) {
-                return numbered(r.name, m).to_lowercase();
+                return numbered(r.name, m).to_ascii_lowercase();
             }
         }
         place.parts()
@@ -218,7 +223,7 @@ impl Place {
     }
 
     fn by_parts(name: &str) -> Option<Place> {
-        let name = name.to_lowercase();
+        let name = name.to_ascii_lowercase();
         let mut parts = name.strip_prefix('s')?.split('_');
         let mut part = |mark: &str| parts.next()?.strip_prefix(mark)?.parse::<u8>().ok();
         let (op0, op1) = (part("")?, part("")?);

@@ -1,28 +1,27 @@
 //! Names that somebody may have meant.
 
-/// Up to three things whose names are like a word: a part of such a name; else the nearest, where
-/// they are near enough to have been meant; else one that begins as the word does.
+/// Up to three things whose names are like a word: it is a part of them; else the nearest, where they
+/// are near enough to have been meant; else those that begin with it, or it with them.
 pub fn near<'a, T: Copy + PartialEq>(
     word: &str,
     names: impl Iterator<Item = (&'a str, T)> + Clone,
 ) -> Vec<T> {
-    let word = word.to_uppercase();
+    let word = word.to_ascii_uppercase();
     if word.chars().count() < 2 {
         return Vec::new();
     }
-    let capitals = names.map(|(name, thing)| (name.to_uppercase(), thing));
+    let capitals = names.map(|(name, thing)| (name.to_ascii_uppercase(), thing));
     let part =
         |(name, _): &(String, T)| name.contains('.') && name.split('.').any(|part| part == word);
     let begins = |(name, _): &(String, T)| {
         let (short, long) = if name.len() < word.len() { (name, &word) } else { (&word, name) };
         short.len() > 2 && long.starts_with(short.as_str())
     };
-    let ways = [
-        first(capitals.clone().filter(part)),
-        first(nearest(&word, capitals.clone()).into_iter()),
-        first(capitals.filter(begins)),
-    ];
-    ways.into_iter().find(|way| !way.is_empty()).unwrap_or_default()
+    let parts = first(capitals.clone().filter(part));
+    let or =
+        |found: Vec<T>, next: &dyn Fn() -> Vec<T>| if found.is_empty() { next() } else { found };
+    let near = or(parts, &|| first(nearest(&word, capitals.clone()).into_iter()));
+    or(near, &|| first(capitals.clone().filter(begins)))
 }
 
 /// The first three different things.
@@ -57,19 +56,26 @@ fn nearest<T: Copy>(word: &str, names: impl Iterator<Item = (String, T)>) -> Vec
     found
 }
 
-/// The rows of a keyboard: a key is easily taken for the one beside it.
-const KEYS: &[u8] = b"QWERTYUIOP ASDFGHJKL ZXCVBNM";
+/// Where the keys of a keyboard stand, in rows that do not touch: a key is easily taken for the one
+/// beside it.
+const KEYS: [u8; 128] = {
+    let rows = *b"QWERTYUIOP  ASDFGHJKL  ZXCVBNM";
+    let mut places = [0; 128];
+    let mut at = 0;
+    while at < rows.len() {
+        places[rows[at] as usize] = 100 + at as u8;
+        at += 1;
+    }
+    places
+};
 
 /// What it costs to take one letter for another.
 fn replaced(a: char, b: char) -> usize {
-    let key = |byte: &u8, c: char| char::from(*byte) == c;
-    let beside = |pair: &[u8]| {
-        (key(&pair[0], a) && key(&pair[1], b)) || (key(&pair[0], b) && key(&pair[1], a))
-    };
-    match a == b {
-        true => 0,
-        false if KEYS.windows(2).any(beside) => 1,
-        false => 2,
+    let place = |c: char| KEYS.get(c as usize).copied().unwrap_or(0);
+    match (a == b, place(a).abs_diff(place(b))) {
+        (true, _) => 0,
+        (false, 1) => 1,
+        (false, _) => 2,
     }
 }
 

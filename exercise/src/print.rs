@@ -4,11 +4,12 @@ use crate::named;
 use crate::names::Names;
 use crate::notation;
 use crate::session::{is_short, operands, pieces, Kind};
+use crate::tables::commands::{BYTES_WORD, SHORT_WORD};
 
 /// A line for each command, by its name where it has one.
 pub fn text(names: &Names, bytes: &[u8]) -> String {
     let short = is_short(bytes);
-    let mut text = if short { "short\n".to_string() } else { String::new() };
+    let mut text = if short { format!("{SHORT_WORD}\n") } else { String::new() };
     let mut at = usize::from(short);
     for piece in pieces(bytes) {
         let part = &bytes[piece.start..piece.end];
@@ -35,6 +36,6 @@ pub fn text(names: &Names, bytes: &[u8]) -> String {
 fn plain(text: &mut String, bytes: &[u8], remark: &str) {
     for row in bytes.chunks(16) {
         let list: Vec<String> = row.iter().map(|byte| format!("{byte:02X}")).collect();
-        text.push_str(&format!("bytes {}  # {remark}\n", list.join(" ")));
+        text.push_str(&format!("{BYTES_WORD} {}  # {remark}\n", list.join(" ")));
     }
 }

@@ -27,7 +27,8 @@ pub fn run(text: &Text) -> Run {
     let mut answers: Vec<String> = lines.lines().map(answer).collect();
     let mut run = Run { lines, answers: vec![Vec::new(); text.rows.len()], behind: None };
     if is_long(&text.bytes) {
-        run.answers[text.passing().unwrap_or(0)] = answers;
+        let passing = text.passing().expect("a line passes the limit");
+        run.answers[passing] = answers;
         return run;
     }
     assert_eq!(text.pieces.len(), answers.len(), "the model reads the commands that are read here");

@@ -61,7 +61,7 @@ pub fn show(text: &Text, run: &Run, width: Width) -> String {
 
 /// A line without the answer that it expects.
 fn shown(row: &Row) -> String {
-    plain(row.source[..row.shown].trim_end())
+    plain(&row.shown)
 }
 
 /// The answers of a line in words, or why it has none.
@@ -99,7 +99,7 @@ impl Layout {
             MARK.len() + said.iter().map(|answer| answer.chars().count()).max().unwrap_or(0);
         let (column, mut behind) = match single {
             true if used + 2 <= self.beside => (self.beside, true),
-            true if said.len() == 1 && used + 2 + longest <= self.columns => (used + 2, true),
+            true if used + 2 + longest <= self.columns => (used + 2, true),
             _ => (self.left + 2, false),
         };
         for answer in said {
@@ -121,15 +121,17 @@ impl Layout {
 
 /// A text in pieces of so many characters at most, broken at spaces where there are any.
 fn wrap(text: &str, width: usize) -> Vec<String> {
+    let text: Vec<char> = text.chars().collect();
     let mut pieces = Vec::new();
-    let mut rest: Vec<char> = text.chars().collect();
-    while rest.len() > width {
-        let space = rest[..=width].iter().rposition(|c| *c == ' ');
-        let first = rest.iter().position(|c| *c != ' ').unwrap_or(0);
-        let end = space.filter(|at| *at > first).unwrap_or(width);
-        pieces.push(rest[..end].iter().collect::<String>().trim_end().to_string());
-        rest = rest[end..].iter().copied().skip_while(|c| *c == ' ').collect();
+    let mut at = 0;
+    while text.len() - at > width {
+        let part = &text[at..=at + width];
+        let first = part.iter().position(|c| *c != ' ').unwrap_or(0);
+        let end = part.iter().rposition(|c| *c == ' ').filter(|end| *end > first).unwrap_or(width);
+        pieces.push(part[..end].iter().collect::<String>().trim_end().to_string());
+        at += end;
+        at += text[at..].iter().take_while(|c| **c == ' ').count();
     }
-    pieces.push(rest.into_iter().collect());
+    pieces.push(text[at..].iter().collect());
     pieces
 }

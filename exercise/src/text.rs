@@ -31,8 +31,8 @@ pub struct Row {
     /// Counted from 1.
     pub number: usize,
     pub source: String,
-    /// How much of it stands before the first `#>`.
-    pub shown: usize,
+    /// The line without the answers that it expects.
+    pub shown: String,
     /// Where its command stands.
     pub code: Span,
     /// What it is of the session: nothing for a comment.
@@ -40,6 +40,20 @@ pub struct Row {
     pub expected: Vec<Expected>,
     pub faults: Vec<Fault>,
     pub fate: Fate,
+    kind: RowKind,
+}
+
+/// What a line is, read alone.
+#[derive(Clone, Copy, PartialEq, Eq)]
+enum RowKind {
+    Comment,
+    /// The byte of the short form.
+    Form,
+    Command,
+    /// Any bytes.
+    Bytes,
+    /// There is an error in it.
+    Broken,
 }
 
 /// A text that was read.
@@ -53,6 +67,8 @@ pub struct Text {
     last: Option<usize>,
     /// Whether the first such line is an error, so that nobody knows the form.
     formless: bool,
+    /// The line behind which the bytes end.
+    pub closing: usize,
 }
 
 impl Text {
@@ -69,10 +85,11 @@ impl Text {
         for line in body.split(|&b| b == b'\n') {
             text.line(names, line.strip_suffix(b"\r").unwrap_or(line));
         }
-        if !text.has_errors() {
-            text.settle();
-        }
-        if !text.has_errors() {
+        text.settle();
+        if text.has_errors() {
+            // of a session that nobody knows nothing can be foreseen
+            text.rows.iter_mut().for_each(|row| row.faults.retain(Fault::is_error));
+        } else {
             caution::whole(&mut text);
         }
         text
@@ -86,37 +103,56 @@ impl Text {
         let source = String::from_utf8_lossy(line).to_string();
         let mut row = Row::new(self.rows.len() + 1, source, self.bytes.len());
         let control = |c: char| c.is_control() && c != '\t';
-        match std::str::from_utf8(line) {
-            Err(error) => row.fault_at(Error::NotUtf8 {}, error.valid_up_to()),
-            Ok(good) => match good.find(control) {
-                Some(at) => row.fault_at(Error::Control {}, at),
-                None => self.parts(names, &Line::new(good), &mut row),
-            },
+        let bad = match std::str::from_utf8(line) {
+            Err(error) => Some((Error::NotUtf8 {}, error.valid_up_to())),
+            Ok(good) => good.find(control).map(|at| (Error::Control {}, at)),
+        };
+        match bad {
+            Some((error, at)) => {
+                row.fault_at(error, at);
+                self.met(&mut row, RowKind::Broken);
+            }
+            None => self.parts(names, &mut row),
         }
         row.bytes.end = self.bytes.len();
         self.rows.push(row);
     }
 
-    fn parts(&mut self, names: &Names, line: &Line, row: &mut Row) {
-        row.shown = line.shown;
+    /// A line that has a command, whole or not.
+    fn met(&mut self, row: &mut Row, kind: RowKind) {
+        self.formless |= self.last.is_none() && kind == RowKind::Broken;
+        self.last = Some(self.rows.len());
+        row.kind = kind;
+    }
+
+    fn parts(&mut self, names: &Names, row: &mut Row) {
+        let source = row.source.clone();
+        let line = Line::new(&source);
+        row.shown = line.without_expected();
         let mut cursor = line.words(line.code);
         row.code = cursor.whole();
-        let empty = cursor.rest().is_empty();
-        if !empty {
-            let done = self.command(names, &mut cursor);
-            self.formless |= self.last.is_none() && done.is_err();
-            match done {
-                Ok(bytes) => {
-                    row.faults.extend(caution::command(names, &bytes, &cursor, self.is_short()));
+        if !cursor.rest().is_empty() {
+            let kind = match self.command(names, &mut cursor) {
+                Ok((kind, bytes)) => {
+                    row.faults.extend(caution::command(
+                        names,
+                        &bytes,
+                        &cursor,
+                        self.has_narrow_sets(),
+                    ));
                     self.bytes.extend(bytes);
+                    kind
                 }
-                Err(fault) => row.faults.push(with_comment(fault, line.code, &row.source)),
-            }
-            self.last = Some(self.rows.len());
+                Err(fault) => {
+                    row.faults.push(with_comment(fault, line.code, &source));
+                    RowKind::Broken
+                }
+            };
+            self.met(row, kind);
         }
         for span in &line.expected {
             match Expected::parse(&mut line.words(*span), row.number) {
-                Ok(expected) if empty => self.asked(row).push(expected),
+                Ok(expected) if row.kind == RowKind::Comment => self.asked(row).push(expected),
                 Ok(expected) => row.expected.push(expected),
                 Err(fault) => row.faults.push(fault),
             }
@@ -130,37 +166,44 @@ impl Text {
     }
 
     /// Whether narrow sets are commands: in the short form, or while nobody knows the form.
-    fn is_short(&self) -> bool {
+    fn has_narrow_sets(&self) -> bool {
         self.formless || is_short(&self.bytes)
     }
 
-    fn command(&self, names: &Names, cursor: &mut Cursor) -> Result<Vec<u8>, Fault> {
+    fn command(&self, names: &Names, cursor: &mut Cursor) -> Result<(RowKind, Vec<u8>), Fault> {
         let first = cursor.take("the command")?;
         let begins = self.last.is_none();
         if first.is(SHORT_WORD) || (first.text == format!("{SHORT:02X}") && begins) {
             cursor.done()?;
             let not_first = Fault::error(Error::NotFirst {}, first.span);
-            return begins.then(|| vec![SHORT]).ok_or(not_first);
+            return begins.then(|| (RowKind::Form, vec![SHORT])).ok_or(not_first);
         }
         if first.is(BYTES_WORD) {
-            return notation::parse_any(cursor);
+            return Ok((RowKind::Bytes, notation::parse_any(cursor)?));
         }
         cursor.again();
-        match notation::is_notation(&first) {
-            true => notation::parse(cursor, self.is_short()),
-            false => named::parse(names, cursor, self.is_short()),
-        }
+        let narrow = self.has_narrow_sets();
+        let bytes = match notation::is_notation(&first) {
+            true => notation::parse(cursor, narrow)?,
+            false => named::parse(names, cursor, narrow)?,
+        };
+        Ok((RowKind::Command, bytes))
     }
 
     /// What becomes of each line, and whether it can give as many answers as it expects.
     fn settle(&mut self) {
+        let speaks = |row: &Row| row.kind != RowKind::Comment || !row.expected.is_empty();
+        self.closing = self.rows.iter().rposition(speaks).unwrap_or(0);
         self.pieces = pieces(&self.bytes);
         let fates: Vec<Fate> = self.rows.iter().map(|row| self.fate(row)).collect();
         self.rows.iter_mut().zip(fates).for_each(|(row, fate)| row.fate = fate);
+        let broken = self.has_errors();
+        let early = broken || self.ends_early();
         let mut faults = Vec::new();
         for (index, row) in self.rows.iter().enumerate() {
-            let behind = usize::from(self.ends_early() && index == self.closing());
-            faults.extend(row.unasked(row.fate.answers() + behind));
+            let behind = usize::from(early && index == self.closing);
+            let alone = self.last.is_none() || row.kind != RowKind::Comment;
+            faults.extend(row.unasked(row.answers(broken) + behind, alone));
         }
         for (number, fault) in faults {
             self.rows[number - 1].faults.push(fault);
@@ -191,36 +234,32 @@ impl Text {
         let cut = |piece: &Piece| matches!(piece.kind, Kind::Cut) && piece.start == piece.end;
         self.pieces.last().map_or(false, cut) && !is_long(&self.bytes)
     }
-
-    /// The line behind which the bytes end.
-    pub fn closing(&self) -> usize {
-        let speaks = |row: &Row| !row.bytes.is_empty() || !row.expected.is_empty();
-        self.rows.iter().rposition(speaks).unwrap_or(0)
-    }
-}
-
-impl Fate {
-    /// How many answers a line can expect.
-    fn answers(&self) -> usize {
-        match self {
-            Fate::Silent => 0,
-            Fate::Commands(pieces) => pieces.len(),
-            Fate::Inside | Fate::NotRead | Fate::NotRun => 1,
-        }
-    }
 }
 
 impl Row {
     fn new(number: usize, source: String, at: usize) -> Row {
         Row {
             number,
-            shown: source.len(),
+            shown: source.clone(),
             source,
             code: Span { start: 0, end: 0 },
             bytes: at..at,
             expected: Vec::new(),
             faults: Vec::new(),
             fate: Fate::Silent,
+            kind: RowKind::Comment,
+        }
+    }
+
+    /// How many answers it can expect, where that is known.
+    fn answers(&self, broken: bool) -> usize {
+        match (self.kind, &self.fate) {
+            (RowKind::Comment | RowKind::Form, _) => 0,
+            (RowKind::Command, _) => 1,
+            (RowKind::Bytes, Fate::Commands(pieces)) if !broken => pieces.len(),
+            // as many as it has bytes, where they are not read
+            (RowKind::Bytes, _) => self.bytes.len(),
+            (RowKind::Broken, _) => usize::MAX - 1,
         }
     }
 
@@ -230,19 +269,19 @@ impl Row {
         self.faults.push(Fault::error(error, Span { start, end: start + length }));
     }
 
-    /// Expected answers that can't be given, each with the number of its line.
-    fn unasked(&self, answers: usize) -> Vec<(usize, Fault)> {
+    /// Expected answers that can't be given, each with the number of its line. Only a text without
+    /// commands may expect one where no command is.
+    fn unasked(&self, answers: usize, asked: bool) -> Vec<(usize, Fault)> {
+        let fault = |e: &Expected, error: Error| (e.number, Fault::error(error, e.span));
+        if !asked {
+            return self.expected.iter().map(|e| fault(e, Error::Unasked {})).collect();
+        }
         let (nothing, said): (Vec<&Expected>, Vec<&Expected>) =
             self.expected.iter().partition(|expected| expected.is_nothing());
         let alone = self.expected.len() < 2;
-        let beside = nothing.iter().filter(|_| !alone).map(|e| (e, Error::Nothing {}));
-        let line = self.number;
-        let error = || match self.bytes.is_empty() {
-            true => Error::Unasked {},
-            false => Error::ManyAnswers { line },
-        };
-        let more = said.iter().skip(answers).map(|e| (e, error()));
-        beside.chain(more).map(|(e, error)| (e.number, Fault::error(error, e.span))).collect()
+        let beside = nothing.into_iter().filter(|_| !alone).map(|e| fault(e, Error::Nothing {}));
+        let more = said.into_iter().skip(answers);
+        beside.chain(more.map(|e| fault(e, Error::ManyAnswers { line: self.number }))).collect()
     }
 }
 

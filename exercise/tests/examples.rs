@@ -154,3 +154,25 @@ fn lines_without_an_answer() {
     let shown = show(&text, &run(&text), Width::Wide);
     assert_eq!(shown.lines().collect::<Vec<_>>(), wide);
 }
+
+/// A remark behind `#>` stays, a long line has its answers behind it, and XZR is no number.
+#[test]
+fn remarks_and_long_lines() {
+    let names = Names::new();
+    let comment = "x".repeat(60);
+    let input =
+        format!("bytes 06 00 06 00 # {comment} #> ok # why #> ok\nlevel 1\nmrs xzr, pmicntr_el0\n");
+    let text = Text::read(&names, format!("set PMUv3 1\nset ICNTR = 1\n{input}end\n").as_bytes());
+    let indent = " ".repeat(4 + 20 + 60 + 1 + 5 + 2);
+    let wide = [
+        " 1  set PMUv3 1                                                   -> ok".to_string(),
+        " 2  set ICNTR = 1                                                 -> ok".to_string(),
+        format!(" 3  bytes 06 00 06 00 # {comment} # why  -> ok"),
+        format!("{indent}-> ok"),
+        " 4  level 1                                                       -> ok".to_string(),
+        " 5  mrs xzr, pmicntr_el0                                          -> xzr = 0".to_string(),
+        " 6  end                                                           -> end".to_string(),
+    ];
+    let shown = show(&text, &run(&text), Width::Wide);
+    assert_eq!(shown.lines().collect::<Vec<_>>(), wide);
+}

@@ -108,12 +108,24 @@ fn the_line_is_shown_with_a_mark() {
     assert_eq!(shown.lines().collect::<Vec<_>>(), lines);
 }
 
-/// Nothing that a terminal would take for an order is shown.
+/// Nothing that a terminal would take for an order is shown, and of a long line a part.
 #[test]
-fn control_characters_are_not_shown() {
+fn control_characters_and_long_lines() {
     let names = Names::new();
-    let text = Text::read(&names, b"set \x1B[31mPMUv3 1\n\x00\n");
-    for line in all(&text).iter().flat_map(|shown| shown.lines()) {
-        assert!(!line.chars().any(char::is_control), "{line:?}");
+    let long = format!("{} sett PMUv3 1 {}\n", " ".repeat(5_000), "1 ".repeat(5_000));
+    for input in ["set \x1B[31mPMUv3 1\n\x00\n", &long] {
+        let text = Text::read(&names, input.as_bytes());
+        let faults = text.rows.iter().flat_map(|row| row.faults.iter().map(move |f| (row, f)));
+        for (row, fault) in faults {
+            let shown = fault.shown("a.txt", row.number, &row.source);
+            for line in shown.lines() {
+                assert!(!line.chars().any(char::is_control), "{line:?}");
+                assert!(line.chars().count() < 250, "{line}");
+            }
+            let lines: Vec<&str> = shown.lines().collect();
+            let mark = lines[2].find('^').expect("a mark");
+            let marked: String = lines[1].chars().skip(mark).take(4).collect();
+            assert!(input.contains('\x1B') || marked == "sett", "{marked}");
+        }
     }
 }

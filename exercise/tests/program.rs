@@ -104,6 +104,9 @@ fn an_answer_may_be_shorter() {
             "{expected}"
         );
     }
+    // nor may it be longer
+    assert_eq!(all(&["check", "-"], "read C00 #> value 0x0\nend\n").2, 0);
+    assert_eq!(all(&["check", "-"], "read C00 #> value 0x0 2\nend\n").2, 1);
     // below its line too
     assert_eq!(all(&["check", "-"], "mrs x2, pmicntr_el0\n  #> undef\nend\n").2, 0);
     assert_eq!(all(&["check", "-"], "tick #> ok\n#> refused 2\n").2, 0);
@@ -235,6 +238,19 @@ fn a_long_text_is_shortened() {
     let (out, error, status) = all(&["bytes", "--short", "-"], &twice);
     assert_eq!((out.as_str(), status), ("", 1));
     assert!(error.contains("there is no other form: refused 6"), "{error}");
+}
+
+/// MODEL Z1 and R6: the limit does not count the byte of the short form.
+#[test]
+fn the_limit_of_the_short_form() {
+    let full = format!("short\n{}back\nend\n", "tick\n".repeat(2047));
+    let (out, error, status) = all(&["run", "--lines", "-"], &full);
+    assert!(out.ends_with("\n2049 end\n"), "{error}");
+    assert_eq!((error.as_str(), status), ("", 0));
+    let long = format!("short\n{}end\n", "tick\n".repeat(2048));
+    let (out, error, status) = all(&["run", "--lines", "-"], &long);
+    assert_eq!((out.as_str(), status), ("0 refused 6\n", 0));
+    assert!(error.starts_with("standard input:2050:1: warning: this passes 4,096"), "{error}");
 }
 
 /// Every command has a name in the text of its bytes, but those that no name has.

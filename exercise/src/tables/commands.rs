@@ -85,7 +85,7 @@ pub const COMMANDS: &[Command] = &[
     Command {
         byte: 0x03,
         model: "access",
-        name: "access",
+        name: ACCESS,
         operands: &[Word, Value(8)],
         short: false,
         usage: &[
@@ -157,6 +157,7 @@ pub const LINES: &[(&str, &str, &str)] = &[
 /// The words that begin such lines, and instructions.
 pub const SHORT_WORD: &str = "short";
 pub const BYTES_WORD: &str = "bytes";
+pub const ACCESS: &str = "access";
 pub const MRS: &str = "mrs";
 pub const MSR: &str = "msr";
 

@@ -26,11 +26,10 @@ impl Field {
     /// MODEL R4: whether it can't hold a value, and why.
     pub fn refuses(&self, value: u64) -> Option<Unheld> {
         let others = value & !self.largest;
-        match self.mask && others != 0 {
-            _ if value > self.largest => Some(Unheld::Above),
-            true => Some(Unheld::NoBit(63 - others.leading_zeros())),
-            false => None,
+        if value > self.largest {
+            return Some(Unheld::Above);
         }
+        (self.mask && others != 0).then(|| Unheld::NoBit(63 - others.leading_zeros()))
     }
 }
 

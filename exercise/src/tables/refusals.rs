@@ -90,7 +90,7 @@ const fn by(number: u8, control: &'static str, opened: &'static str) -> Cause {
 
 pub const CAUSES: &[Cause] = &[
     by(1, "PMUSERENR_EL0", "`set PMUSERENR.EN 1`; ER will do for mrs, SW for PMSWINC"),
-    by(2, "a fine-grained bit", "HDFGRTR (mrs), HDFGWTR (msr): its bit 0; nPMICNTR 1"),
+    by(2, "a fine-grained bit", "HDFGRTR (mrs) or HDFGWTR (msr): to 0, but nPMICNTR to 1"),
     by(3, "MDCR_EL2.TPM", "`set MDCR_EL2.TPM 0`"),
     by(4, "MDCR_EL2.HPMN", "MDCR_EL2.HPMN above the counter's number, at most N"),
     by(5, "MDCR_EL3.TPM", "`set MDCR_EL3.TPM 0`"),
