@@ -134,13 +134,16 @@ fn field(names: &Names, cursor: &mut Cursor) -> Result<u8, Fault> {
     }
 }
 
-/// The words up to the first number are the name that is none.
+/// The words up to the first number are the name that is none, or as many of them as are like one.
 fn no_field(names: &Names, first: Token, cursor: &mut Cursor) -> Fault {
     let is_number = |t: &Token| t.is("=") || t.text.starts_with(|c: char| c.is_ascii_digit());
     let more = cursor.rest().iter().take(names.words).take_while(|token| !is_number(token));
     let words: Vec<Token> = std::iter::once(first).chain(more.copied()).collect();
-    let word = words.iter().map(|token| token.text).collect::<Vec<_>>().join(" ");
-    let span = Span { start: first.span.start, end: words[words.len() - 1].span.end };
+    let name = |count: usize| words[..count].iter().map(|t| t.text).collect::<Vec<_>>().join(" ");
+    let like = |count: &usize| !names.field_hint(&name(*count)).is_empty();
+    let count = (1..=words.len()).rev().find(like).unwrap_or(words.len());
+    let (word, span) =
+        (name(count), Span { start: first.span.start, end: words[count - 1].span.end });
     let hint = names.field_hint(&word);
     Fault::error(Error::NoField { word }, span).with(hint)
 }
