@@ -1,24 +1,23 @@
 // External accesses, the tick and members of the sample population: what was decided about them (`judge`), done.
 ghost use mathlib.Core.Path.{_≡_};
-ghost use Rattle.store.specs.Store.{store};
-ghost use Rattle.rules.specs.External.{ovsCounted, sample, judge, enact};
+ghost use Rattle.external.specs.InParts.{Enacted, Responded};
+ghost use Rattle.rules.specs.declared.external.Effect.{Effect};
+ghost use Rattle.rules.specs.External.{ovsCounted, judge, enact};
 ghost use Rattle.rules.specs.External.{externalRead, externalWrite, tick, member};
 ghost use Rattle.state.specs.State.{viewOf};
 use answer::Answer;
 use machine::Machine;
 use machine::Outcome;
+use machine::Settings;
+use machine::Values;
 use rules::external::Effect;
 use rules::external::Request;
 
-// The record with these counter enables.
-fn with_cnten(e: u64, r: Machine) -> Machine
-    ensures { λ m. ⌜ m ≡ store 0x34 e r ⌝ }
-{
-    let mut settings = r.settings;
-    settings.cnten = e;
-    let mut next = r;
-    next.settings = settings;
-    next
+// What a request answers, and the counter enables and the values beside the event counters after it. It changes nothing else.
+pub struct Told {
+    pub answer: Answer,
+    pub cnten: u64,
+    pub values: Values,
 }
 
 // The overflow flags after the instruction counter, which held y, went up.
@@ -29,86 +28,109 @@ fn ovs_counted(y: u64, ovs: u64) -> u64
 }
 
 // A member that counts.
-fn sample(draw: u8, mut r: Machine) -> Outcome
-    ensures { λ o. ⌜ o ≡ sample draw r ⌝ }
+fn sample(draw: u8, s: Settings, v: Values) -> Told
+    ensures { λ t. ⌜ Enacted (Effect.Sample draw) s v t ⌝ }
 {
-    let s = r.settings;
-    let mut values = r.values;
-    let ernd = s.features.ernd;
-    let reload = s.sampling.reload;
-    let m = pmsicr::counted(ernd, s.sampling.rnd, reload, draw as u64, values.pmsicr);
+    let mut values = v;
+    let m = pmsicr::counted(
+        s.features.ernd,
+        s.sampling.rnd,
+        s.sampling.reload,
+        draw as u64,
+        values.pmsicr,
+    );
     values.pmsicr = m.pmsicr;
-    r.values = values;
     if m.selected {
-        return Outcome {
+        return Told {
             answer: Answer::Sampled,
-            machine: r,
+            cnten: s.cnten,
+            values: values,
         };
     }
-    Outcome {
+    Told {
         answer: Answer::Ok,
-        machine: r,
+        cnten: s.cnten,
+        values: values,
     }
 }
 
-// What an effect answers and does to the record.
-fn enact(e: Effect, mut r: Machine) -> Outcome
-    ensures { λ o. ⌜ o ≡ enact e r ⌝ }
+// What an effect answers and does.
+fn enact(e: Effect, s: Settings, v: Values) -> Told
+    ensures { λ t. ⌜ Enacted e s v t ⌝ }
 {
+    let mut values = v;
     match e {
-        Effect::Says(a) => Outcome {
+        Effect::Says(a) => Told {
             answer: a,
-            machine: r,
+            cnten: s.cnten,
+            values: v,
         },
-        Effect::Enables(x) => Outcome {
+        Effect::Enables(x) => Told {
             answer: Answer::Ok,
-            machine: with_cnten(x, r),
+            cnten: x,
+            values: v,
         },
-        Effect::ReadOvs => {
-            let settings = r.settings;
-            Outcome {
-                answer: Answer::Value(flags::shown_of(false, settings, r.values.ovs)),
-                machine: r,
-            }
-        }
+        Effect::ReadOvs => Told {
+            answer: Answer::Value(flags::shown_of(false, s, v.ovs)),
+            cnten: s.cnten,
+            values: v,
+        },
         Effect::ClearOvs { mask } => {
-            let mut values = r.values;
-            values.ovs = flags::lowered(mask, values.ovs);
-            r.values = values;
-            Outcome {
+            values.ovs = flags::lowered(mask, v.ovs);
+            Told {
                 answer: Answer::Ok,
-                machine: r,
+                cnten: s.cnten,
+                values: values,
             }
         }
         Effect::SetOvs { mask } => {
-            let mut values = r.values;
-            values.ovs = flags::raised(mask, values.ovs);
-            r.values = values;
-            Outcome {
+            values.ovs = flags::raised(mask, v.ovs);
+            Told {
                 answer: Answer::Ok,
-                machine: r,
+                cnten: s.cnten,
+                values: values,
             }
         }
         Effect::Count => {
-            let mut values = r.values;
-            values.ovs = ovs_counted(values.instructions, values.ovs);
-            values.instructions = std::num::wrapping_add_u64(values.instructions, 1);
-            r.values = values;
-            Outcome {
+            values.ovs = ovs_counted(v.instructions, v.ovs);
+            values.instructions = std::num::wrapping_add_u64(v.instructions, 1);
+            Told {
                 answer: Answer::Ok,
-                machine: r,
+                cnten: s.cnten,
+                values: values,
             }
         }
-        Effect::Sample(draw) => sample(draw, r),
+        Effect::Sample(draw) => sample(draw, s, v),
     }
 }
 
-// What a request answers and does to the record. The four calls below share this one, so that the compiled code has its parts
-// once, in one place.
-fn respond(q: Request, r: Machine) -> Outcome
+// What a request answers and does to the record with these parts.
+pub fn in_parts(q: Request, level: u8, s: Settings, counters: &[u64], v: Values) -> Told
+    ensures { λ t. ⌜ Responded q level s (now (counters .entry)) v t ⌝ }
+{
+    enact(
+        judge::judge(state::view_at(level, s, counters, v.ovs), q),
+        s,
+        v,
+    )
+}
+
+// The same with a record by value. The four calls below share this one, so that the compiled code has its parts once, in one
+// place.
+fn respond(q: Request, mut r: Machine) -> Outcome
     ensures { λ o. ⌜ o ≡ enact (judge (viewOf r) q) r ⌝ }
 {
-    enact(judge::judge(state::view_of(r), q), r)
+    let mut settings = r.settings;
+    let told = in_parts(q, r.level, settings, &r.counters, r.values);
+    let answer = told.answer;
+    let values = told.values;
+    settings.cnten = told.cnten;
+    r.settings = settings;
+    r.values = values;
+    Outcome {
+        answer: answer,
+        machine: r,
+    }
 }
 
 // An external read at an offset.

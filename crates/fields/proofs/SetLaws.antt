@@ -26,12 +26,12 @@ event-test : (f : ℕ) → f < 0x5F → eventLargest f ≡ true
 unfolding eventLargest largest
 event-test = below eventLargest 0x5F refl
 
-event-largest : (f : ℕ) → 0x40 ≤ f → f ≤ 0x5E → largest f ≡ 0xFFFF
+pub event-largest : (f : ℕ) → 0x40 ≤ f → f ≤ 0x5E → largest f ≡ 0xFFFF
 unfolding eventLargest
 event-largest f low high = eqb-true _ _ (rw (le-leb 0x40 f low) at (event-test f (omega arith)))
 
 -- a value that does not exceed its field's largest is at most that
-within-largest : (f v : ℕ) → exceeds v f ≡ false → v ≤ largest f
+pub within-largest : (f v : ℕ) → exceeds v f ≡ false → v ≤ largest f
 within-largest f v h = ltb-false (largest f) v (or-right (eqb f 0x37 && bit 31 v) (ltb (largest f) v) h)
 
 -- an event number is at most 0xFFFF, so its low 16 bits are all of it

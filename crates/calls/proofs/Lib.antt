@@ -1,0 +1,3 @@
+-- The laws that the proofs of the calls share.
+pub mod Refused
+pub mod Listed

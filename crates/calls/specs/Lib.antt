@@ -1,0 +1,3 @@
+-- The definitions of the crate `calls`.
+pub mod Replied
+pub mod Listed

@@ -1,0 +1,2 @@
+-- The definitions of the crate `calls_fields`.
+pub mod Fields

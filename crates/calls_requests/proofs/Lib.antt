@@ -1,0 +1,2 @@
+-- The laws of a request made in words.
+pub mod Made

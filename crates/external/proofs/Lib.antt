@@ -1,0 +1,2 @@
+-- The laws of what requests leave.
+pub mod Whole

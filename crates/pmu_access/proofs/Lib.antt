@@ -1,0 +1,2 @@
+-- The laws of an access that is listed.
+pub mod Kept

@@ -1,0 +1,5 @@
+-- The laws of the machine in words.
+pub mod United
+pub mod Run
+pub mod Stored
+pub mod Puts
