@@ -1,5 +1,6 @@
 /* The session function and the conversion of the proved model, for C: link target/staticlib/libpmu.a, which `rt staticlib pmu`
- * writes.
+ * writes. The model call by call is in pmu_calls.h, for libpmu_access.a and libpmu_calls.a. Neither header includes the other,
+ * and a program may use both, and link all three.
  *
  * crates/pmu/src has the functions and what is proved of them. No session is out of place here: whatever its bytes, the output is
  * what docs/MODEL.md says of them. What C cannot promise and the proofs rest on is that each pointer is to as many bytes as the

@@ -56,7 +56,7 @@ fn reference_register(_: &[u64], list: &[u64], _: u64) -> u64 {
 }
 
 /// What an answer adds to the sum.
-fn worth(answer: Answer) -> u64 {
+pub fn worth(answer: Answer) -> u64 {
     match answer {
         Answer::Ok => 1,
         Answer::Trap { syndrome, cause, .. } => syndrome as u64 + cause.number() as u64,

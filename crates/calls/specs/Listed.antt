@@ -30,8 +30,8 @@ pub record Emptied (o : Outcome) (m : Machine) (list list′ : List ℕ) : Type 
 abbrev pub stepBack : List ℕ → List ℕ → Response
 stepBack s list = backFrom (recordOf s) (earlierBy (entries list) (recordOf s))
 
--- MODEL X16: the step back made in the words: its reply, the record and the list that the words then stand for, each word, and the
--- entries without the latest
+-- MODEL X16: the step back made in the words: its reply, the record and the list that the words then stand for, each word, and
+-- the entries without the latest
 pub record SteppedBack (before list : List ℕ) (r : Reply) (after list′ : List ℕ) : Type 0 where
   pub reply : r ≡ replyOf (stepBack before list .answer)
   pub history : historyBy (recordOf after) list′ ≡ stepBack before list .left

@@ -24,5 +24,5 @@ pub record Replied (o : Outcome) (changed : Machine → List ℕ → List ℕ) (
   pub words : after ≡ cond (isRefused (o .answer)) before (changed (o .machine) before)
 
 -- MODEL R4, K1 and X14: a tick is refused with 4 where its flag exceeds 1, before a word is looked at
-abbrev pub tickOf : ℕ → List ℕ → Outcome
-tickOf p s = cond (ltb 1 p) (refused ValueTooLarge (recordOf s)) (callOf (tick (eqb p 1)) s)
+abbrev pub tickCall : ℕ → List ℕ → Outcome
+tickCall p s = cond (ltb 1 p) (refused ValueTooLarge (recordOf s)) (callOf (tick (eqb p 1)) s)

@@ -1,5 +1,5 @@
-// An access made in the words of a caller's: settings and values are taken from them, the event counters are lent where they stand,
-// and what the access leaves is stored.
+// An access made in the words of a caller's: settings and values are taken from them, the event counters are passed by reference
+// where they stand, and what the access leaves is stored.
 ghost use mathlib.Core.Path.{_≡_};
 ghost use lib.ListN.{length};
 ghost use Rattle.rules.specs.Apply.{apply};
@@ -29,8 +29,8 @@ fn view(m: &[u64], level: u8, s: Settings, ovs: u64) -> View
     state::view_at(level, s, &m[0x60..0x7F], ovs)
 }
 
-// What was decided, done to the words, from which the settings and the values were taken. Event numbers are taken from them for an
-// increment alone.
+// A decision carried out in the words, from which the settings and the values were taken. Only an increment takes event numbers
+// from them.
 fn apply(d: Decision, m: &mut [u64], s: Settings, v: Values) -> Acted
     requires { ⌜ Taken (now m) s v ⌝ }
     ensures { λ a. ⌜ Did (apply d (recordOf (now (m .entry)))) (changeOf d (recordOf (now (m .entry))))

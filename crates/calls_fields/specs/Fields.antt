@@ -11,8 +11,8 @@ use Rattle.machine.specs.declared.Outcome.{Outcome}
 use Rattle.words.specs.Words.{recordOf, levelWord}
 use Rattle.words.specs.Put.{put}
 
--- MODEL F20, J4 and X14: the words after a set command that is not refused: word f holds the value, and PMSICR_EL1 (8C) is what it
--- is in the record afterwards
+-- MODEL F20, J4 and X14: the words after a set command that is not refused: word f holds the value, and PMSICR_EL1 (8C) is what
+-- it is in the record afterwards
 abbrev pub wordsSet : ℕ → ℕ → Machine → List ℕ → List ℕ
 wordsSet f v m s = set (set s f v) 0x8C (m .values .pmsicr)
 
@@ -24,8 +24,8 @@ wordsLevelled m s = set s levelWord (m .level)
 abbrev pub wordsBack : Machine → List ℕ → List ℕ
 wordsBack m s = set (put m s) levelWord (m .level)
 
--- MODEL X14: a command that does not test the record, made in the words: the answer, the record that they then hold, and each word,
--- which stays where the command is refused
+-- MODEL X14: a command that does not test the record, made in the words: the answer, the record that they then hold, and each
+-- word, which stays where the command is refused
 pub record Made (o : Outcome) (changed : Machine → List ℕ → List ℕ) (before : List ℕ) (answer : Answer) (after : List ℕ)
     : Type 0 where
   pub answered : answer ≡ o .answer

@@ -8,7 +8,7 @@ use Rattle.answer.specs.declared.Answer.{Answer}
 use Rattle.answer.specs.declared.Refusal.the-variants.{FieldTooLarge, ValueTooLarge}
 use Rattle.answer.specs.Refused.{isRefused}
 use Rattle.calls.specs.Listed.{Listed, Emptied}
-use Rattle.calls.specs.Replied.{tickOf}
+use Rattle.calls.specs.Replied.{tickCall}
 use Rattle.calls.proofs.Listed.{listed-call}
 use Rattle.execute.specs.Execute.{tickCommand}
 use Rattle.execute.proofs.Taken.{level-back, write-back, tick-back, member-back}
@@ -84,7 +84,7 @@ module _ (s list list′ : List ℕ) (a : Answer) (u : Undo) (noted-so : entries
   -- what holds of a tick command holds of the call, which may also be refused with 10
   ticked :
       (P : Outcome → Type 0) (p : ℕ) → P (refused ValueTooLarge m) → P (refused FieldTooLarge m) → P (tickCommand p m)
-      → P (tickOf p s)
+      → P (tickCall p s)
   unfolding tickCommand
   ticked P p four ten h = go (ltb 1 p) h
     where
@@ -94,11 +94,11 @@ module _ (s list list′ : List ℕ) (a : Answer) (u : Undo) (noted-so : entries
       go false h = chosen P (untyped s) (refused FieldTooLarge m) (tick (eqb p 1) m) ten h
 
   pub tick-listed :
-      (p : ℕ) → a ≡ tickOf p s .answer → u ≡ undoOf (held 0x7F (word s 0x7F)) m
-      → Listed (tickOf p s) (held 0x7F (word s 0x7F)) m list list′
+      (p : ℕ) → a ≡ tickCall p s .answer → u ≡ undoOf (held 0x7F (word s 0x7F)) m
+      → Listed (tickCall p s) (held 0x7F (word s 0x7F)) m list list′
   unfolding recordOf
   tick-listed p ea eu =
-      listed-call m (tickOf p s) (held 0x7F (word s 0x7F)) list list′
+      listed-call m (tickCall p s) (held 0x7F (word s 0x7F)) list list′
       (ticked (Stays m) p (λ e. refl) (λ e. refl) (tick-stays m p))
       (ticked (TakenBack (held 0x7F (word s 0x7F))) p same-7F same-7F (tick-back m p))
       a ea _ refl (own (held 0x7F (word s 0x7F)) eu)

@@ -1,8 +1,8 @@
-// The calls that also list what they did, in words of the caller's for the undo list, and the step back. What is listed, what empties
-// the list and what leaves it alone is as in a session.
+// The calls that also list what they did, in words of the caller's for the undo list, and the step back. What is listed, what
+// empties the list and what leaves it alone is as in a session.
 ghost use mathlib.Core.Path.{_≡_};
 ghost use Rattle.calls.specs.Listed.{Listed, Emptied, SteppedBack};
-ghost use Rattle.calls.specs.Replied.{Replied, tickOf};
+ghost use Rattle.calls.specs.Replied.{Replied, tickCall};
 ghost use Rattle.calls_fields.specs.Fields.{wordsSet, wordsLevelled};
 ghost use Rattle.fields.specs.Set.{set, setLevel};
 ghost use Rattle.rules.specs.External.{externalWrite, member};
@@ -90,8 +90,8 @@ pub extern "C" fn pmu_tick_listed(
     list: &mut [u64; 194],
     prohibited: u8,
 ) -> Reply
-    ensures { λ r. ⌜ Replied (tickOf prohibited (now (m .entry))) put (now (m .entry)) r (now (m .exit))
-        × Listed (tickOf prohibited (now (m .entry)))
+    ensures { λ r. ⌜ Replied (tickCall prohibited (now (m .entry))) put (now (m .entry)) r (now (m .exit))
+        × Listed (tickCall prohibited (now (m .entry)))
         (held 0x7F (word (now (m .entry)) 0x7F))
         (recordOf (now (m .entry)))
         (now (list .entry))

@@ -8,8 +8,8 @@ use Rattle.reply.specs.declared.Reply.{Reply}
 abbrev pub reply : ℕ → ℕ → ℕ → ℕ → Reply
 reply kind detail cause value = record { kind = kind; detail = detail; cause = cause; value = value }
 
--- MODEL X15: an answer as its kind, then the level that takes a trap, the number of Rt or of the refusal, then the cause of a trap,
--- then the value or the syndrome
+-- MODEL X15: an answer as its kind, then the level that takes a trap, the number of Rt or of the refusal, then the cause of a
+-- trap, then the value or the syndrome
 abbrev pub replyOf : Answer → Reply
 replyOf Answer.Ok = reply 1 0 0 0
 replyOf Answer.Sampled = reply 2 0 0 0

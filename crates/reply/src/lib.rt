@@ -1,12 +1,12 @@
-// An answer in numbers, for C and Rust: a struct of 16 bytes, which comes back in two registers.
+// An answer in numbers, for C and Rust: a struct of 16 bytes, which x86-64 passes back in two registers.
 ghost use mathlib.Core.Path.{_≡_};
 ghost use Rattle.answer.specs.declared.Answer.{Answer};
 ghost use Rattle.reply.specs.Reply.{replyOf};
 use answer::Answer;
 use answer::Refusal;
 
-// The kind of an answer; the level that takes a trap, the number of Rt or that of a refusal; the cause of a trap; and a value read
-// or the syndrome of a trap. specs/Reply.antt has the numbers. What an answer has not is 0.
+// The kind of an answer; the level that takes a trap, the number of Rt or that of a refusal; the cause of a trap; and a value
+// read or the syndrome of a trap. specs/Reply.antt has the numbers. What an answer has not is 0.
 #[repr(C)]
 pub struct Reply {
     pub kind: u32,

@@ -42,7 +42,7 @@ unfoldable pub viewOf : Machine → View
 viewOf m = viewAt (m .level) (m .settings) (m .counters) (m .values .ovs)
 
 -- MODEL R10: some field, or the level, is above its largest. A field of one bit, an event number, a counter, PMSICR and the
--- word at 0x838 cannot be: their types end there
+-- word at 0x838 cannot be in a record by value: their types end there
 unfoldable pub tooLarge : View → Bool
 unfolding largest
 tooLarge v =

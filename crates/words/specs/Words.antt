@@ -1,5 +1,5 @@
--- The machine in words of a caller's: word k is the field with number k, one word more is the level, and what the words hold is a
--- record. Any words are one.
+-- The machine in words of a caller's: word k is the field with number k, and one word more is the level. Whatever the words are,
+-- they hold a record.
 use Prim.Native.Nat.{ℕ, _%_, _^_}
 use mathlib.Core.Bool.{Bool}
 use mathlib.Core.List.{List, map}

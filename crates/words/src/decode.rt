@@ -1,7 +1,8 @@
 // The record that the words hold, taken from them group by group. The definitions are in specs/Words.antt.
 ghost use mathlib.Core.Path.{_≡_};
 ghost use lib.ListN.{length};
-ghost use Rattle.words.specs.Words.{featuresOf, executionOf, pmcrOf, pmuserenrOf, hcrOf, mdcr2Of, mdcr3Of, scrOf, hdfgrtrOf, hdfgwtrOf, pmuacrOf, samplingOf, externalOf};
+ghost use Rattle.words.specs.Words.{featuresOf, executionOf, pmcrOf, pmuserenrOf, hcrOf, mdcr2Of, mdcr3Of, scrOf};
+ghost use Rattle.words.specs.Words.{hdfgrtrOf, hdfgwtrOf, pmuacrOf, samplingOf, externalOf};
 ghost use Rattle.words.specs.Words.{settingsOf, valuesOf, eventsOf, word, wordCount};
 use machine::Execution;
 use machine::External;
@@ -189,7 +190,7 @@ pub fn settings(m: &[u64; 143]) -> Settings
     }
 }
 
-// What commands change beside the event counters and the counter enables.
+// What accesses, ticks and members change beside the event counters and the counter enables.
 pub fn values(m: &[u64; 143]) -> Values
     ensures { λ r. ⌜ r ≡ valuesOf (word (now (m .entry))) ⌝ }
 {

@@ -3,7 +3,7 @@ use mathlib.Core.Bool.{Bool, cond}
 use mathlib.Core.Path.{_≡_, sym, ap}
 use borrow.Author.Tests.{lt-ltb, le-ltb}
 use Rattle.answer.specs.declared.Refusal.the-variants.{ValueTooLarge}
-use Rattle.calls.specs.Replied.{tickOf}
+use Rattle.calls.specs.Replied.{tickCall}
 use Rattle.calls.proofs.Refused.{refused-called, called-as}
 use Rattle.machine.specs.Outcome.{refused}
 use Rattle.rules.specs.External.{tick}
@@ -18,7 +18,7 @@ returns c =
     let at-start = c .before in
     let s = at-start .args .m .now in
     let p = at-start .args .prohibited in
-    refused-called (tickOf p s) _ s
+    refused-called (tickCall p s) _ s
     (sym (ap (λ (b : Bool). cond b (refused ValueTooLarge (recordOf s)) (callOf (tick (eqb p 1)) s)) (lt-ltb 1 p (c .if1 .taken))))
 
 returns-2 : tie.Need-returns-2
@@ -28,7 +28,7 @@ returns-2 c =
     let at-start = at-if1 .before in
     let s = at-start .args .m .now in
     let p = at-start .args .prohibited in
-    called-as _ (tickOf p s) s _ _
+    called-as _ (tickCall p s) s _ _
     (sym (ap (λ (b : Bool). cond b (refused ValueTooLarge (recordOf s)) (callOf (tick (eqb p 1)) s)) (le-ltb 1 p (at-if1 .if1 .left))))
     (c .respond .ensures)
 

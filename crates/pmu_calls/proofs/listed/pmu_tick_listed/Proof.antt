@@ -2,7 +2,7 @@
 use mathlib.Core.Path.{refl}
 use borrow.Author.Needs.{needs}
 use Rattle.calls.proofs.Refused.{called-reply}
-use Rattle.calls.specs.Replied.{tickOf}
+use Rattle.calls.specs.Replied.{tickCall}
 use Rattle.pmu_calls.proofs.Kept.{tick-listed}
 use Rattle.pmu_calls.proofs.listed.pmu_tick_listed.Statement.{statement}
 use Rattle.pmu_calls.proofs.listed.pmu_tick_listed.Tie as tie
@@ -14,7 +14,7 @@ returns c =
     let at-start = at-kept .before .before .before in
     let s = at-start .args .m .now in
     let called = at-tick .tick .ensures in (
-      called-reply _ (tickOf (at-start .args .prohibited) s) s _ _ called refl _ (c .reply-of .ensures),
+      called-reply _ (tickCall (at-start .args .prohibited) s) s _ _ called refl _ (c .reply-of .ensures),
       tick-listed s _ _ _ _ (c .before .note .ensures) (at-start .args .prohibited) (called .answered) (at-kept .kept .ensures),
     )
 
