@@ -16,11 +16,13 @@ use Rattle.undo.specs.Undo.{HeldAt, held, fieldOf}
 use Rattle.words.specs.Words.{word, levelOf, settingsOf, valuesOf, eventsOf, countersOf, recordOf}
 
 module _ (b : List ℕ) (s : Settings) (v : Values) (es : s ≡ settingsOf (word b)) (ev : v ≡ valuesOf (word b)) where
-  pub shown-of : (p : Place) (y : ℕ) → Shown p s (countersOf b) v y → y ≡ shownBy p (recordOf b .settings) (valueAt p (recordOf b))
+  pub shown-of : (p : Place) (y : ℕ) → Shown p s (countersOf b) v y → y ≡ shownBy p (recordOf b .settings)
+      (valueAt p (recordOf b))
   unfolding recordOf
   shown-of p y e =
       e (levelOf (word b)) (eventsOf b)
-      ∙ ap₂ (λ (s : Settings) (v : Values). shownBy p s (valueAt p (machineOf (levelOf (word b)) s (eventsOf b) (countersOf b) v)))
+      ∙ ap₂ (λ (s : Settings) (v : Values). shownBy p s
+      (valueAt p (machineOf (levelOf (word b)) s (eventsOf b) (countersOf b) v)))
       es ev
 
   pub kept-of : (p : Place) (k : Change) → HeldAt p (countersOf b) v k → k ≡ held (fieldOf p) (valueAt p (recordOf b))

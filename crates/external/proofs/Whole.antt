@@ -73,5 +73,6 @@ pub whole :
     → says (t .answer) (machineOf (r .level) (withCnten (t .cnten) (r .settings)) (r .events) (r .counters) (t .values))
     ≡ enact e r
 whole e r t p =
-    (λ i. says (p .answer i) (machineOf (r .level) (withCnten (p .cnten i) (r .settings)) (r .events) (r .counters) (p .values i)))
+    (λ i. says (p .answer i) (machineOf (r .level) (withCnten (p .cnten i) (r .settings)) (r .events) (r .counters)
+    (p .values i)))
     ∙ ap (says (enact e r .answer)) (rest-stays e r)

@@ -3,3 +3,4 @@ pub mod United
 pub mod Run
 pub mod Stored
 pub mod Puts
+pub mod Typed

@@ -81,7 +81,7 @@ module _ (s : List ℕ) (h : length s ≡ wordCount) where
         ∙ getD-drop 31 (drop 0x60 s) n 0
         ∙ getD-drop 0x60 s (31 + n) 0
 
-    word-stays : (k : ℕ) → within 0x60 0x7E k ≡ false → word (putCounters c s) k ≡ word s k
+    pub word-stays : (k : ℕ) → within 0x60 0x7E k ≡ false → word (putCounters c s) k ≡ word s k
     word-stays k outside = go (leb 0x60 k) refl (leb k 0x7E) refl
       where
         go : (x : Bool) → leb 0x60 k ≡ x → (y : Bool) → leb k 0x7E ≡ y → word (putCounters c s) k ≡ word s k

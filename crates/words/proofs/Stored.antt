@@ -94,19 +94,58 @@ module _ (s : List ℕ) (h : length s ≡ wordCount) (f v : ℕ) (j : f < levelW
     unfolding settingsOf storeSettings storeFeatures storeMdcr2 storeMdcr3 storePmuacr storeSampling largest
     settings-set i =
         record {
-          features = record { pmuv3 = on-set 0x00 refl i; p5 = on-set 0x01 refl i; p9 = on-set 0x02 refl i; icntr = on-set 0x03 refl i; fgt = on-set 0x04 refl i; fgt2 = on-set 0x05 refl i; hpmn0 = on-set 0x06 refl i; ext32 = on-set 0x07 refl i; ext64 = on-set 0x08 refl i; el2 = on-set 0x09 refl i; el3 = on-set 0x0A refl i; el3prio = on-set 0x0B refl i; spe = on-set 0x80 refl i; ernd = on-set 0x81 refl i; n = number-set 0x0C i };
+          features = record {
+            pmuv3 = on-set 0x00 refl i;
+            p5 = on-set 0x01 refl i;
+            p9 = on-set 0x02 refl i;
+            icntr = on-set 0x03 refl i;
+            fgt = on-set 0x04 refl i;
+            fgt2 = on-set 0x05 refl i;
+            hpmn0 = on-set 0x06 refl i;
+            ext32 = on-set 0x07 refl i;
+            ext64 = on-set 0x08 refl i;
+            el2 = on-set 0x09 refl i;
+            el3 = on-set 0x0A refl i;
+            el3prio = on-set 0x0B refl i;
+            spe = on-set 0x80 refl i;
+            ernd = on-set 0x81 refl i;
+            n = number-set 0x0C i;
+          };
           execution = record { el2enabled = on-set 0x10 refl i; halted = on-set 0x11 refl i; sdd = on-set 0x12 refl i };
           pmcr = record { e = on-set 0x3D refl i; lp = on-set 0x35 refl i };
-          pmuserenr = record { en = on-set 0x20 refl i; sw = on-set 0x21 refl i; er = on-set 0x22 refl i; uen = on-set 0x23 refl i; ir = on-set 0x31 refl i };
+          pmuserenr = record {
+            en = on-set 0x20 refl i;
+            sw = on-set 0x21 refl i;
+            er = on-set 0x22 refl i;
+            uen = on-set 0x23 refl i;
+            ir = on-set 0x31 refl i;
+          };
           hcr = record { e2h = on-set 0x24 refl i; tge = on-set 0x25 refl i; nv = on-set 0x84 refl i; nv2 = on-set 0x85 refl i };
-          mdcr2 = record { tpm = on-set 0x26 refl i; hpme = on-set 0x3E refl i; hlp = on-set 0x36 refl i; tpms = on-set 0x86 refl i; hpmn = number-set 0x27 i };
+          mdcr2 = record {
+            tpm = on-set 0x26 refl i;
+            hpme = on-set 0x3E refl i;
+            hlp = on-set 0x36 refl i;
+            tpms = on-set 0x86 refl i;
+            hpmn = number-set 0x27 i;
+          };
           mdcr3 = record { tpm = on-set 0x28 refl i; enpm2 = on-set 0x29 refl i; nspb = number-set 0x88 i };
           scr = record { fgten = on-set 0x2A refl i; fgten2 = on-set 0x2B refl i; ns = on-set 0x87 refl i };
           hdfgrtr = record { pmevcntrn = on-set 0x2C refl i; pmsicr = on-set 0x89 refl i; npmicntr = on-set 0x2F refl i };
-          hdfgwtr = record { pmevcntrn = on-set 0x2D refl i; pmswinc = on-set 0x2E refl i; pmsicr = on-set 0x8A refl i; npmicntr = on-set 0x30 refl i };
+          hdfgwtr = record {
+            pmevcntrn = on-set 0x2D refl i;
+            pmswinc = on-set 0x2E refl i;
+            pmsicr = on-set 0x8A refl i;
+            npmicntr = on-set 0x30 refl i;
+          };
           pmuacr = record { p = number-set 0x32 i; f0 = on-set 0x33 refl i };
           sampling = record { rnd = on-set 0x82 refl i; profiling = on-set 0x83 refl i; reload = number-set 0x8B i };
-          external = record { powered = on-set 0x38 refl i; doublelock = on-set 0x39 refl i; oslock = on-set 0x3A refl i; allowed = on-set 0x3B refl i; softwarelock = on-set 0x3C refl i };
+          external = record {
+            powered = on-set 0x38 refl i;
+            doublelock = on-set 0x39 refl i;
+            oslock = on-set 0x3A refl i;
+            allowed = on-set 0x3B refl i;
+            softwarelock = on-set 0x3C refl i;
+          };
           cnten = number-set 0x34 i;
         }
 

@@ -11,7 +11,7 @@ use Rattle.words.specs.Words.{word, levelWord}
 -- MODEL X13: so many numbers from i on, those of them that a test picks
 abbrev pub numbers : (ℕ → Bool) → ℕ → ℕ → List ℕ
 numbers p i zero = []
-numbers p i (suc k) = cond (p i) (i ∷ numbers p (suc i) k) (numbers p (suc i) k)
+numbers p i (suc k) = let rest = numbers p (suc i) k in cond (p i) (i ∷ rest) rest
 
 -- MODEL X13: the words with these numbers
 abbrev pub wordsAt : List ℕ → List ℕ → List ℕ

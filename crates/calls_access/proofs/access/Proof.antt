@@ -27,7 +27,9 @@ returns c =
     let at-start = at-settings .before .before in
     let b = at-start .args .m .now in
     subst (λ (d : Decision). Did (apply d (recordOf b)) (changeOf d (recordOf b)) b (c .apply .result) (c .apply .last .1 .0))
-    (at-decide .decide .ensures ∙ ap (λ v. decide v (at-start .args .w) (at-start .args .x)) (at-view .view .ensures ∙ (λ i. viewAt (levelOf (word b)) (at-settings .settings .ensures i) (countersOf b) (at-values .values .ensures i .ovs))))
+    (at-decide .decide .ensures ∙ ap (λ v. decide v (at-start .args .w) (at-start .args .x))
+    (at-view .view .ensures ∙ (λ i. viewAt (levelOf (word b)) (at-settings .settings .ensures i) (countersOf b)
+    (at-values .values .ensures i .ovs))))
     (c .apply .ensures)
 
 pub access-spec : {M : Type 1} → statement M

@@ -14,7 +14,10 @@ returns : tie.Need-returns
 unfolding apply
 returns c =
     let at-start = c .before .before .before .before in
-    simp (c .before .d .given .1) (record { called = stays (at-start .args .m .now) (at-start .pre .long) _ _ refl refl; change = refl })
+    simp (c .before .d .given .1) (record {
+      called = stays (at-start .args .m .now) (at-start .pre .long) _ _ refl refl;
+      change = refl;
+    })
 
 returns-2 : tie.Need-returns-2
 unfolding apply
@@ -28,7 +31,8 @@ returns-2 c =
       called =
           stays b (p .long) _ _
           (ap (λ (y : ℕ). Answer.Mrs y (at-d2 .d2 .given .0 .1 .0))
-          (shown-of b (at-start .args .s) (at-start .args .v) (p .settings) (p .values) (at-d2 .d2 .given .0 .0) _ (c .shown .ensures)))
+          (shown-of b (at-start .args .s) (at-start .args .v) (p .settings) (p .values) (at-d2 .d2 .given .0 .0) _
+          (c .shown .ensures)))
           refl;
       change = refl;
     })

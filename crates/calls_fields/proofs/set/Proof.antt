@@ -26,7 +26,8 @@ returns-2 c =
     let b = at-start .args .m .now in
     let field : largest (at-start .args .f) ≡ 0 → ⊥ = λ z. c .before .if1 .left (at-largest .largest .ensures ∙ z) in
     refused-made _ _ _ b
-    (sym (set-large (at-start .args .f) (at-start .args .v) (recordOf b) field (simp (at-largest .largest .ensures) at (c .if2 .taken))))
+    (sym (set-large (at-start .args .f) (at-start .args .v) (recordOf b) field
+    (simp (at-largest .largest .ensures) at (c .if2 .taken))))
 
 put-requires : tie.Need-put-requires
 put-requires c κs =

@@ -25,11 +25,13 @@ returns c =
     let q = at-start .args .q in
     let l = levelOf (word b) in
     let at-record =
-    subst (λ (p : Settings × Values). InParts (enact (judge (viewAt l (p .0) (countersOf b) (p .1 .ovs)) q) (machineOf l (p .0) (eventsOf b) (countersOf b) (p .1)))
+    subst (λ (p : Settings × Values). InParts (enact (judge (viewAt l (p .0) (countersOf b) (p .1 .ovs)) q)
+    (machineOf l (p .0) (eventsOf b) (countersOf b) (p .1)))
     (at-told .told .result))
     (λ i. (at-settings .settings .ensures i, at-values .values .ensures i))
     (at-told .told .ensures (eventsOf b)) in
-    made b (sym (length-set b 0x34 (at-told .told .result .cnten)) ∙ c .before .values-arg2 .given .0 .1) (judge (viewOf (recordOf b)) q)
+    made b (sym (length-set b 0x34 (at-told .told .result .cnten)) ∙ c .before .values-arg2 .given .0 .1)
+    (judge (viewOf (recordOf b)) q)
     (at-told .told .result) _ at-record (c .values2 .ensures)
 
 pub respond-spec : {M : Type 1} → statement M

@@ -9,7 +9,8 @@ returns : tie.Need-returns
 unfolding viewOf
 returns c =
     let at-start = c .before .before .before .before .before .before .before in
-    whole (judge (viewOf (at-start .args .t2)) (at-start .args .q)) (at-start .args .t2) _ (c .before .in-parts .ensures (at-start .args .t2 .events))
+    whole (judge (viewOf (at-start .args .t2)) (at-start .args .q)) (at-start .args .t2) _
+    (c .before .in-parts .ensures (at-start .args .t2 .events))
 
 pub respond-spec : {M : Type 1} → statement M
 respond-spec = tie.close (tie.spec (λ c κs. tt) returns)

@@ -13,7 +13,8 @@ returns c =
     let at-start = at-untyped .before .before in
     let s = at-start .args .m .now in
     let f = step (at-start .args .word) (at-start .args .operand) in
-    refused-call (callOf f s) _ put s (untyped-call f s (sym (at-untyped .untyped .ensures) ∙ c .before .if1 .taken)) _ (c .refused .ensures)
+    refused-call (callOf f s) _ put s (untyped-call f s (sym (at-untyped .untyped .ensures) ∙ c .before .if1 .taken)) _
+    (c .refused .ensures)
 
 returns-2 : tie.Need-returns-2
 returns-2 c =
@@ -22,7 +23,8 @@ returns-2 c =
     let at-start = at-untyped .before .before in
     let s = at-start .args .m .now in
     let f = step (at-start .args .word) (at-start .args .operand) in
-    called-reply _ (callOf f s) s _ _ (c .before .access .ensures .called) (typed-call f s (sym (at-untyped .untyped .ensures) ∙ at-if1 .if1 .left)) _
+    called-reply _ (callOf f s) s _ _ (c .before .access .ensures .called)
+    (typed-call f s (sym (at-untyped .untyped .ensures) ∙ at-if1 .if1 .left)) _
     (c .reply-of .ensures)
 
 pub pmu-access-spec : {M : Type 1} → statement M

@@ -11,7 +11,8 @@ unfolding externalRead
 returns c =
     let at-start = c .before .before .before in
     let s = at-start .args .m .now in
-    called-reply _ (callOf (externalRead (at-start .args .offset)) s) s _ _ (c .before .respond .ensures) refl _ (c .reply-of .ensures)
+    called-reply _ (callOf (externalRead (at-start .args .offset)) s) s _ _ (c .before .respond .ensures) refl _
+    (c .reply-of .ensures)
 
 pub pmu-external-read-spec : {M : Type 1} → statement M
 pmu-external-read-spec = tie.close (tie.spec (λ c κs. tt) (λ c κs. tt) returns)

@@ -19,7 +19,8 @@ returns c =
     let s = at-start .args .m .now in
     let p = at-start .args .prohibited in
     refused-called (tickCall p s) _ s
-    (sym (ap (λ (b : Bool). cond b (refused ValueTooLarge (recordOf s)) (callOf (tick (eqb p 1)) s)) (lt-ltb 1 p (c .if1 .taken))))
+    (sym (ap (λ (b : Bool). cond b (refused ValueTooLarge (recordOf s)) (callOf (tick (eqb p 1)) s))
+    (lt-ltb 1 p (c .if1 .taken))))
 
 returns-2 : tie.Need-returns-2
 unfolding tick
@@ -29,7 +30,8 @@ returns-2 c =
     let s = at-start .args .m .now in
     let p = at-start .args .prohibited in
     called-as _ (tickCall p s) s _ _
-    (sym (ap (λ (b : Bool). cond b (refused ValueTooLarge (recordOf s)) (callOf (tick (eqb p 1)) s)) (le-ltb 1 p (at-if1 .if1 .left))))
+    (sym (ap (λ (b : Bool). cond b (refused ValueTooLarge (recordOf s)) (callOf (tick (eqb p 1)) s))
+    (le-ltb 1 p (at-if1 .if1 .left))))
     (c .respond .ensures)
 
 pub tick-spec : {M : Type 1} → statement M

@@ -51,7 +51,8 @@ none-holds v none-of =
 returns : tie.Need-returns
 unfolding tooLarge largest
 returns c =
-    let at-start = c .before .before .before .before .before .before .before .before .before .before .before .before .before .before .before .before .before .before .before .before .before .before in
+    let half-way = c .before .before .before .before .before .before .before .before .before .before .before in
+    let at-start = half-way .before .before .before .before .before .before .before .before .before .before .before in
     none-holds (at-start .args .v) (c .if1 .taken)
 
 returns-2 : tie.Need-returns-2
@@ -90,7 +91,8 @@ returns-7 c =
     let at-if4 = at-if5 .before in
     let at-if3 = at-if4 .before in
     let at-if2 = at-if3 .before in
-    row _ (at-if2 .if2 .left ↓ at-if3 .if3 .left ↓ at-if4 .if4 .left ↓ at-if5 .if5 .left ↓ c .before .if6 .left ↓ held (c .if7 .taken) refl)
+    row _ (at-if2 .if2 .left ↓ at-if3 .if3 .left ↓ at-if4 .if4 .left ↓ at-if5 .if5 .left ↓ c .before .if6 .left ↓ held
+    (c .if7 .taken) refl)
 
 returns-8 : tie.Need-returns-8
 unfolding refusals tooLarge largest
@@ -100,7 +102,8 @@ returns-8 c =
     let at-if4 = at-if5 .before in
     let at-if3 = at-if4 .before in
     let at-if2 = at-if3 .before in
-    row _ (at-if2 .if2 .left ↓ at-if3 .if3 .left ↓ at-if4 .if4 .left ↓ at-if5 .if5 .left ↓ at-if6 .if6 .left ↓ c .before .if7 .left ↓ held (c .if8 .taken) refl)
+    row _ (at-if2 .if2 .left ↓ at-if3 .if3 .left ↓ at-if4 .if4 .left ↓ at-if5 .if5 .left ↓ at-if6 .if6 .left ↓
+    c .before .if7 .left ↓ held (c .if8 .taken) refl)
 
 returns-9 : tie.Need-returns-9
 unfolding refusals tooLarge largest
@@ -111,7 +114,8 @@ returns-9 c =
     let at-if4 = at-if5 .before in
     let at-if3 = at-if4 .before in
     let at-if2 = at-if3 .before in
-    row _ (at-if2 .if2 .left ↓ at-if3 .if3 .left ↓ at-if4 .if4 .left ↓ at-if5 .if5 .left ↓ at-if6 .if6 .left ↓ at-if7 .if7 .left ↓ c .before .if8 .left ↓ held (c .if9 .taken) refl)
+    row _ (at-if2 .if2 .left ↓ at-if3 .if3 .left ↓ at-if4 .if4 .left ↓ at-if5 .if5 .left ↓ at-if6 .if6 .left ↓
+    at-if7 .if7 .left ↓ c .before .if8 .left ↓ held (c .if9 .taken) refl)
 
 returns-10 : tie.Need-returns-10
 unfolding refusals tooLarge largest
@@ -122,7 +126,8 @@ returns-10 c =
     let at-if4 = at-if5 .before in
     let at-if3 = at-if4 .before in
     let at-if2 = at-if3 .before in
-    row _ (at-if2 .if2 .left ↓ at-if3 .if3 .left ↓ at-if4 .if4 .left ↓ at-if5 .if5 .left ↓ at-if6 .if6 .left ↓ at-if7 .if7 .left ↓ c .before .if8 .left ↓ c .if9 .left ↓ none refl)
+    row _ (at-if2 .if2 .left ↓ at-if3 .if3 .left ↓ at-if4 .if4 .left ↓ at-if5 .if5 .left ↓ at-if6 .if6 .left ↓
+    at-if7 .if7 .left ↓ c .before .if8 .left ↓ c .if9 .left ↓ none refl)
 
 pub verdict-of-spec : {M : Type 1} → statement M
 verdict-of-spec =

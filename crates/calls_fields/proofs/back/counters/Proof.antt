@@ -16,7 +16,8 @@ returns c =
     let at-start = at-events .before .before .before in
     let b = at-start .args .m .now in
     ap (λ (l : List ℕ). putCounters l b)
-    (at-put-back .put-back .ensures ∙ ap (λ (e : List ℕ). countersBefore (at-start .args .c) (at-start .args .p5) e (countersOf b)) (at-events .events .ensures))
+    (at-put-back .put-back .ensures ∙ ap (λ (e : List ℕ). countersBefore (at-start .args .c) (at-start .args .p5) e
+    (countersOf b)) (at-events .events .ensures))
 
 pub counters-spec : {M : Type 1} → statement M
 counters-spec =

@@ -19,14 +19,16 @@ returns-2 : tie.Need-returns-2
 returns-2 c =
     let at-if1 = c .before .before in
     let at-start = at-if1 .before .before .before .before in
-    simp (ne-eqb (at-start .args .c .field) 0xFE (at-if1 .if1 .left)) (store-below 0x60 (at-start .args .c .field) _ _ (c .if2 .taken))
+    simp (ne-eqb (at-start .args .c .field) 0xFE (at-if1 .if1 .left))
+    (store-below 0x60 (at-start .args .c .field) _ _ (c .if2 .taken))
 
 returns-3 : tie.Need-returns-3
 returns-3 c =
     let at-if2 = c .before .before in
     let at-if1 = at-if2 .before .before in
     let at-start = at-if1 .before .before .before .before in
-    simp (ne-eqb (at-start .args .c .field) 0xFE (at-if1 .if1 .left)) (store-past 0x60 (at-start .args .c .field) _ _ (at-if2 .if2 .left) (c .if3 .taken))
+    simp (ne-eqb (at-start .args .c .field) 0xFE (at-if1 .if1 .left))
+    (store-past 0x60 (at-start .args .c .field) _ _ (at-if2 .if2 .left) (c .if3 .taken))
 
 returns-4 : tie.Need-returns-4
 returns-4 c =
@@ -34,7 +36,9 @@ returns-4 c =
     let at-if2 = at-if3 .before .before in
     let at-if1 = at-if2 .before .before in
     let at-start = at-if1 .before .before .before .before in
-    simp (ne-eqb (at-start .args .c .field) 0xFE (at-if1 .if1 .left)) (store-at 0x60 (at-start .args .c .field) (at-start .args .c .old) (at-start .args .counters .now) (at-if2 .if2 .left) (at-if3 .if3 .left))
+    simp (ne-eqb (at-start .args .c .field) 0xFE (at-if1 .if1 .left))
+    (store-at 0x60 (at-start .args .c .field) (at-start .args .c .old) (at-start .args .counters .now) (at-if2 .if2 .left)
+    (at-if3 .if3 .left))
 
 returns-5 : tie.Need-returns-5
 returns-5 c =
@@ -42,7 +46,10 @@ returns-5 c =
     let at-if2 = at-if3 .before .before in
     let at-if1 = at-if2 .before .before in
     let at-start = at-if1 .before .before .before .before in
-    simp (ne-eqb (at-start .args .c .field) 0xFE (at-if1 .if1 .left)) (sym (set-out (at-start .args .counters .now) (at-start .args .c .field - 0x60) (at-start .args .c .old) (c .if4 .left)) ∙ store-at 0x60 (at-start .args .c .field) (at-start .args .c .old) (at-start .args .counters .now) (at-if2 .if2 .left) (at-if3 .if3 .left))
+    simp (ne-eqb (at-start .args .c .field) 0xFE (at-if1 .if1 .left))
+    (sym (set-out (at-start .args .counters .now) (at-start .args .c .field - 0x60) (at-start .args .c .old)
+    (c .if4 .left)) ∙ store-at 0x60 (at-start .args .c .field) (at-start .args .c .old)
+    (at-start .args .counters .now) (at-if2 .if2 .left) (at-if3 .if3 .left))
 
 pub put-back-spec : {M : Type 1} → statement M
 put-back-spec =

@@ -16,9 +16,11 @@ returns c =
     let at-start = at-kept .before .before .before in
     let s = at-start .args .m .now in
     let called = at-respond .respond .ensures in (
-      called-reply _ (callOf (externalWrite (at-start .args .offset) (at-start .args .value)) s) s _ _ called refl _ (c .reply-of .ensures),
+      called-reply _ (callOf (externalWrite (at-start .args .offset) (at-start .args .value)) s) s _ _ called refl _
+          (c .reply-of .ensures),
       write-listed s _ _ _ _ (c .before .note .ensures) _ _ (called .answered) (at-kept .kept .ensures),
     )
 
 pub pmu-external-write-listed-spec : {M : Type 1} → statement M
-pmu-external-write-listed-spec = tie.close (tie.spec (λ c. search needs) (λ c κs. tt) (λ c κs. tt) (λ c κs. tt) (λ c κs. tt) returns)
+pmu-external-write-listed-spec = tie.close (tie.spec (λ c. search needs) (λ c κs. tt) (λ c κs. tt) (λ c κs. tt) (λ c κs. tt)
+    returns)

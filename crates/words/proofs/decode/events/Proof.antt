@@ -33,7 +33,8 @@ loop-again c =
     let at-start = at-loop .before in (
       omega arith,
       simp length-set (at-loop .loop .inv .1),
-      event-turn (at-start .args .m .now) (at-start .pre) (at-loop .loop .events) (at-loop .loop .i) (at-loop .loop .inv .1) (c .before .loop-test .taken) (at-loop .loop .inv .2),
+      event-turn (at-start .args .m .now) (at-start .pre) (at-loop .loop .events) (at-loop .loop .i) (at-loop .loop .inv .1)
+          (c .before .loop-test .taken) (at-loop .loop .inv .2),
     )
 
 returns : tie.Need-returns Inv-loop μ-loop

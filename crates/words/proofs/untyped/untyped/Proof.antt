@@ -11,7 +11,8 @@ returns c =
     let at-flags-30 = at-flags-80 .before in
     let at-flags-20 = at-flags-30 .before in
     let at-flags-00 = at-flags-20 .before in
-    in-parts _ (at-flags-00 .flags-00 .ensures) (at-flags-20 .flags-20 .ensures) (at-flags-30 .flags-30 .ensures) (at-flags-80 .flags-80 .ensures) (at-events-40 .events-40 .ensures) (c .before .events-50 .ensures)
+    in-parts _ (at-flags-00 .flags-00 .ensures) (at-flags-20 .flags-20 .ensures) (at-flags-30 .flags-30 .ensures)
+    (at-flags-80 .flags-80 .ensures) (at-events-40 .events-40 .ensures) (c .before .events-50 .ensures)
 
 pub untyped-spec : {M : Type 1} → statement M
 untyped-spec =
