@@ -21,8 +21,7 @@ pub enum Verdict {
     Refused(Refusal),
 }
 
-// The state test, on what a decision may look at: the first test that holds, in the order of `refusals`. That none holds is one
-// test, so that a consistent record is soon passed.
+// The state test, on what a decision may look at: the first test that holds, in the order of `refusals`.
 pub fn verdict_of(v: View) -> Verdict
     ensures { λ r. ⌜ r ≡ verdictOf v ⌝ }
 {
@@ -45,17 +44,6 @@ pub fn verdict_of(v: View) -> Verdict
     let hpmn_zero = has.el2 & (hpmn == 0) & !has.hpmn0;
     let tge_at_el1 = (level == 1) & el2enabled & s.hcr.tge;
     let feature_missing = ((has.p5 | has.p9 | has.icntr) & !has.pmuv3) | (has.p9 & !has.p5);
-    let refused = too_large
-        | level_unavailable
-        | el2_unimplemented
-        | hpmn_above_n
-        | hpmn_zero
-        | v.wide
-        | tge_at_el1
-        | feature_missing;
-    if !refused {
-        return Verdict::Consistent;
-    }
     if too_large {
         return Verdict::Refused(Refusal::FieldTooLarge);
     }

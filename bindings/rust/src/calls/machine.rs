@@ -17,7 +17,7 @@ pub const LEVEL: usize = 0x8E;
 /// The words may hold anything (MODEL X14): accesses, external reads and writes,
 /// ticks and samples are refused with 10 where one exceeds its field's largest
 /// value, and with 11 to 17 where the record is not consistent; sets and levels test
-/// no word. A refused call changes nothing.
+/// no word. A refused call changes no word.
 ///
 /// ```
 /// use pmu::{Answer, Machine};

@@ -21,7 +21,7 @@ pub const LIST: usize = 194;
 /// assert_eq!(recorded.machine(), &Machine::fresh());
 /// assert_eq!(recorded.back(), Answer::Refused(18));
 /// ```
-#[derive(Clone, Debug, PartialEq, Eq, Hash)]
+#[derive(Clone, Debug)]
 pub struct Recorded {
     machine: Machine,
     list: [u64; LIST],
