@@ -120,7 +120,7 @@ fn machine_and_list_can_be_kept() {
     let (words, list): ([u64; WORDS], [u64; LIST]) =
         (*recorded.machine().words(), *recorded.list());
     let mut again = Recorded::from_parts(Machine::from_words(words), list);
-    assert_eq!(again, recorded);
+    assert_eq!((again.machine(), again.list()), (recorded.machine(), recorded.list()));
     assert_eq!(again.back(), Answer::Ok);
     assert_eq!(again.machine(), &machine());
 }
