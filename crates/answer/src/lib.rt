@@ -1,11 +1,13 @@
 // What a command can answer: the refusals, the levels that a trap goes to and the controls behind it, and the answers of a
 // session's lines.
+#![tactic(auto)]
+
 ghost use Rattle.std.specs.Prelude.{◌≡◌};
 ghost use Rattle.answer.specs.Numbers.{refusal_number, level_number, cause_number};
 ghost use Rattle.answer.specs.Refused.{is_refused};
 
 // Why an input or a record is refused (MODEL R). specs/Numbers.antt has the number of each.
-#[derive(Drop)]
+#[derive(Clone, Copy)]
 pub enum Refusal {
     UnknownCommand,
     Truncated,
@@ -27,7 +29,7 @@ pub enum Refusal {
 }
 
 // The exception level that takes a trap.
-#[derive(Drop)]
+#[derive(Clone, Copy)]
 pub enum Level {
     El1,
     El2,
@@ -37,7 +39,7 @@ pub enum Level {
 // The control behind a trap (MODEL D): PMUSERENR_EL0, the fine-grained bit of the register and the direction, MDCR_EL2.TPM,
 // MDCR_EL2.HPMN, MDCR_EL3.TPM, MDCR_EL3.EnPM2, SCR_EL3.FGTEn2, MDCR_EL2.TPMS or MDCR_EL3.NSPB. specs/Numbers.antt has the number
 // of each.
-#[derive(Drop)]
+#[derive(Clone, Copy)]
 pub enum Cause {
     Pmuserenr,
     FineGrained,
@@ -51,7 +53,7 @@ pub enum Cause {
 }
 
 // Where an access is trapped to, by which control, and the 32 bits of its syndrome.
-#[derive(Drop)]
+#[derive(Clone, Copy)]
 pub struct Trap {
     pub target: Level,
     pub cause: Cause,
@@ -60,7 +62,7 @@ pub struct Trap {
 
 // All that a session's line shows behind its position. `Sampled` is that of a member of the sample population that is selected,
 // `Mrs` the value of an access with its Rt, `Value` that of an external read.
-#[derive(Drop)]
+#[derive(Clone, Copy)]
 pub enum Answer {
     Ok,
     Sampled,

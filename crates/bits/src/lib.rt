@@ -1,4 +1,6 @@
 // Bits of numbers: one bit, and the lowest ones; and a choice between two numbers or two bools.
+#![tactic(auto)]
+
 ghost use Rattle.std.specs.Prelude.{cond, ◌≡◌, ◌%◌, ◌^◌};
 ghost use Rattle.bits.specs.Bits.{bit};
 

@@ -1,6 +1,7 @@
 // Four accesses by `in_place::owned`. It is that function which lends the record, to `in_place::step`, and hands it back with the
 // answer; here the record is passed by value. Each answer is printed as a session prints it, the next access gets the record that
 // came back, and at the end a counter of the last record is printed.
+#![tactic(auto)]
 ghost use Rattle.std.specs.Prelude.{[], ◌∷◌, ◌≡◌, ◌<◌};
 ghost use Rattle.fields.specs.Set.{set, set_all, set_level};
 ghost use Rattle.machine.specs.Machine.{fresh};

@@ -1,5 +1,6 @@
 // An access made in the words of a caller's: settings and values are taken from them, the event counters are passed by reference
 // where they stand, and what the access leaves is stored.
+#![tactic(auto)]
 ghost use Rattle.std.specs.Prelude.{◌≡◌, length};
 ghost use Rattle.rules.specs.Apply.{apply};
 ghost use Rattle.rules.specs.Step.{step};
@@ -15,7 +16,7 @@ use state::View;
 use undo::Change;
 
 // What an access answers, and the field that is kept of it, with what that held (MODEL H8).
-#[derive(Drop)]
+#[derive(Clone, Copy)]
 pub struct Acted {
     pub answer: Answer,
     pub change: Change,

@@ -1,4 +1,5 @@
 // A session's bytes as commands: the command that they begin with, with its little-endian operands, or why there is none.
+#![tactic(auto)]
 pub mod reading; // reading.rt: how far reading goes on
 
 ghost use Rattle.std.specs.Prelude.{◌≡◌, ◌+◌, ◌≤◌, ◌<◌, ◌^◌, length, drop};
@@ -9,7 +10,7 @@ use answer::Refusal;
 use form::Form;
 
 // A command of a session with its operands, or why its bytes are none.
-#[derive(Drop)]
+#[derive(Clone, Copy)]
 pub enum Command {
     End,
     Set { field: u8, value: u64 },

@@ -1,11 +1,12 @@
 // The streams of a program: a session's bytes read, its lines written to standard output, and on standard error what went wrong
 // with either. The exit status of a program of Rattle is 0 all the same.
+#![tactic(auto)]
 ghost use Rattle.console.specs.Input.{Fits};
 
 use transcript::Output;
 
 // What came of reading an input: so many bytes, at the buffer's front, or a read that failed.
-#[derive(Drop)]
+#[derive(Clone, Copy)]
 pub enum Input {
     Bytes(usize),
     Failed,

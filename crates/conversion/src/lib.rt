@@ -1,4 +1,5 @@
 // A session in its other form, written to the front of a buffer, or why there is none.
+#![tactic(auto)]
 ghost use Rattle.std.specs.Prelude.{◌≡◌, ◌+◌, ◌≤◌, length};
 ghost use Rattle.command.specs.Command.{commands_in};
 ghost use Rattle.form.specs.Form.{head_of, longest};
@@ -24,7 +25,7 @@ fn other_form(f: Form) -> Form
 }
 
 // How many bytes commands have in a form, or the first refusal that was met in reading them.
-#[derive(Drop)]
+#[derive(Clone, Copy)]
 enum Measured {
     Refused(Refusal),
     Bytes(usize),
@@ -97,7 +98,7 @@ fn is_too_long(g: Form, n: usize) -> bool
 
 // What became of a conversion: the buffer is too short for a session and was left alone, or the session is refused and the buffer
 // was left alone, or so many bytes of it hold the other form.
-#[derive(Drop)]
+#[derive(Clone, Copy)]
 pub enum Converted {
     NoRoom,
     Refused(Refusal),

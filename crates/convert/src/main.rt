@@ -1,5 +1,6 @@
 // MODEL X12: reads a session from standard input and writes its other form to standard output, or says on standard error by
 // which number it is refused.
+#![tactic(auto)]
 use answer::Refusal;
 use console::Input;
 use conversion::Converted;

@@ -1,4 +1,5 @@
 // A command as bytes, in either form of a session.
+#![tactic(auto)]
 ghost use Rattle.std.specs.Prelude.{◌∷◌, ◌++◌, ◌≡◌, ◌+◌, ◌≤◌, length};
 ghost use Rattle.command.specs.Operand.{little_bytes};
 ghost use Rattle.text.specs.Written.{Written};
@@ -9,14 +10,14 @@ use command::Command;
 use form::Form;
 
 // A number and how many bytes hold it.
-#[derive(Drop)]
+#[derive(Clone, Copy)]
 pub struct Part {
     pub bytes: usize,
     pub number: u64,
 }
 
 // A command's own byte and its operands.
-#[derive(Drop)]
+#[derive(Clone, Copy)]
 pub struct Layout {
     pub command: Part,
     pub first: Part,

@@ -1,4 +1,5 @@
 // A command run on the record and on the undo list, whose words are lent.
+#![tactic(auto)]
 ghost use Rattle.std.specs.Prelude.{false, ◌≡◌};
 ghost use Rattle.command.specs.Command.{is_access};
 ghost use Rattle.machine.specs.Machine.{machine_of};

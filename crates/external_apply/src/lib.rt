@@ -1,4 +1,5 @@
 // External accesses, the tick and members of the sample population: what was decided about them (`external_decide`), done.
+#![tactic(auto)]
 ghost use Rattle.std.specs.Prelude.{◌≡◌};
 ghost use Rattle.external_apply.specs.InParts.{Enacted, Responded};
 ghost use Rattle.rules.specs.declared.external.Effect.{Effect};
@@ -11,7 +12,7 @@ use machine::{Machine, Outcome, Settings, Values};
 use rules::external::{Effect, Request};
 
 // What a request answers, and the counter enables and the values beside the event counters after it. It changes nothing else.
-#[derive(Drop)]
+#[derive(Clone, Copy)]
 pub struct Told {
     pub answer: Answer,
     pub cnten: u64,

@@ -1,11 +1,13 @@
 // The two forms of a session: which one bytes have, where its commands begin, which bytes are commands in it, and how wide its
 // sets are.
+#![tactic(auto)]
+
 ghost use Rattle.std.specs.Prelude.{◌≡◌, ◌≤◌, length};
 ghost use Rattle.form.specs.Form.{head_of, form_of};
 ghost use Rattle.form.specs.Sets.{is_unknown, narrowest, is_too_wide};
 
 // The form of a session's bytes. The short form begins with the byte 10, and its sets have values of 1, 4 or 8 bytes.
-#[derive(Drop)]
+#[derive(Clone, Copy)]
 pub enum Form {
     Long,
     Short,

@@ -1,6 +1,7 @@
 // The access with the record lent and changed there, so that the caller holds one record. Thin functions over the by-value step,
 // which works on a copy of its own during the call. A reference to a struct is proved by hand, so both functions
 // have a walk in proofs/; whoever calls `owned` needs none.
+#![tactic(auto)]
 ghost use Rattle.std.specs.Prelude.{◌≡◌};
 ghost use Rattle.rules.specs.Step.{step};
 

@@ -1,5 +1,6 @@
 // The machine record (MODEL F): one struct for each register or group of fields, and below it what it is in the fresh
 // record. The crate `fields` has the number and the largest value of each field.
+#![tactic(auto)]
 pub mod fresh; // fresh.rt: the fresh record
 
 use answer::Answer;
@@ -7,7 +8,7 @@ use answer::Answer;
 // What the processor implements: FEAT_PMUv3, PMUv3p5, PMUv3p9, PMUv3_ICNTR, FGT, FGT2, HPMN0, PMUv3_EXT32 and
 // PMUv3_EXT64, EL2 and EL3, the choice "EL3 trap priority when SDD == '1'", FEAT_SPE, PMSIDR_EL1.ERnd, and N, the number of
 // event counters.
-#[derive(Drop)]
+#[derive(Clone, Copy)]
 pub struct Features {
     pub pmuv3: bool,
     pub p5: bool,
@@ -45,7 +46,7 @@ pub const FRESH_FEATURES: Features = Features {
 };
 
 // EL2Enabled(), Halted() and EDSCR.SDD.
-#[derive(Drop)]
+#[derive(Clone, Copy)]
 pub struct Execution {
     pub el2enabled: bool,
     pub halted: bool,
@@ -59,7 +60,7 @@ pub const FRESH_EXECUTION: Execution = Execution {
 };
 
 // PMUSERENR_EL0.
-#[derive(Drop)]
+#[derive(Clone, Copy)]
 pub struct Pmuserenr {
     pub en: bool,
     pub sw: bool,
@@ -77,7 +78,7 @@ pub const FRESH_PMUSERENR: Pmuserenr = Pmuserenr {
 };
 
 // HCR_EL2.
-#[derive(Drop)]
+#[derive(Clone, Copy)]
 pub struct Hcr {
     pub e2h: bool,
     pub tge: bool,
@@ -93,7 +94,7 @@ pub const FRESH_HCR: Hcr = Hcr {
 };
 
 // PMCR_EL0.
-#[derive(Drop)]
+#[derive(Clone, Copy)]
 pub struct Pmcr {
     pub e: bool,
     pub lp: bool,
@@ -105,7 +106,7 @@ pub const FRESH_PMCR: Pmcr = Pmcr {
 };
 
 // MDCR_EL2.
-#[derive(Drop)]
+#[derive(Clone, Copy)]
 pub struct Mdcr2 {
     pub tpm: bool,
     pub hpme: bool,
@@ -123,7 +124,7 @@ pub const FRESH_MDCR2: Mdcr2 = Mdcr2 {
 };
 
 // MDCR_EL3; NSPB is a number of two bits.
-#[derive(Drop)]
+#[derive(Clone, Copy)]
 pub struct Mdcr3 {
     pub tpm: bool,
     pub enpm2: bool,
@@ -137,7 +138,7 @@ pub const FRESH_MDCR3: Mdcr3 = Mdcr3 {
 };
 
 // SCR_EL3.
-#[derive(Drop)]
+#[derive(Clone, Copy)]
 pub struct Scr {
     pub fgten: bool,
     pub fgten2: bool,
@@ -151,7 +152,7 @@ pub const FRESH_SCR: Scr = Scr {
 };
 
 // The fine-grained trap bits of reads: HDFGRTR_EL2.PMEVCNTRn_EL0 and .PMSICR_EL1, and HDFGRTR2_EL2.nPMICNTR_EL0.
-#[derive(Drop)]
+#[derive(Clone, Copy)]
 pub struct Hdfgrtr {
     pub pmevcntrn: bool,
     pub pmsicr: bool,
@@ -166,7 +167,7 @@ pub const FRESH_HDFGRTR: Hdfgrtr = Hdfgrtr {
 
 // The fine-grained trap bits of writes: HDFGWTR_EL2.PMEVCNTRn_EL0, .PMSWINC_EL0 and .PMSICR_EL1, and
 // HDFGWTR2_EL2.nPMICNTR_EL0.
-#[derive(Drop)]
+#[derive(Clone, Copy)]
 pub struct Hdfgwtr {
     pub pmevcntrn: bool,
     pub pmswinc: bool,
@@ -182,7 +183,7 @@ pub const FRESH_HDFGWTR: Hdfgwtr = Hdfgwtr {
 };
 
 // PMUACR_EL1: the bits P<m> as one number, and F0.
-#[derive(Drop)]
+#[derive(Clone, Copy)]
 pub struct Pmuacr {
     pub p: u64,
     pub f0: bool,
@@ -192,7 +193,7 @@ pub const FRESH_PMUACR: Pmuacr = Pmuacr { p: 0, f0: false };
 
 // What decides about external accesses: IsCorePowered(), DoubleLockStatus(), OSLockStatus(),
 // AllowExternalPMUAccess() and SoftwareLockStatus().
-#[derive(Drop)]
+#[derive(Clone, Copy)]
 pub struct External {
     pub powered: bool,
     pub doublelock: bool,
@@ -211,7 +212,7 @@ pub const FRESH_EXTERNAL: External = External {
 
 // What decides about members of the sample population: PMSIRR_EL1.RND, whether profiling is enabled, and the value with which
 // the primary counter is reloaded.
-#[derive(Drop)]
+#[derive(Clone, Copy)]
 pub struct Sampling {
     pub rnd: bool,
     pub profiling: bool,
@@ -227,7 +228,7 @@ pub const FRESH_SAMPLING: Sampling = Sampling {
 // All that a decision about an access may look at, besides the level, refusal 15's test, and that of refusal 10 on the overflow
 // flags. `cnten` holds the counter enables of PMCNTENSET_EL0. The groups of bools stand together, and the level behind the
 // event numbers, so that little padding is copied with a record.
-#[derive(Drop)]
+#[derive(Clone, Copy)]
 pub struct Settings {
     pub features: Features,
     pub execution: Execution,
@@ -248,7 +249,7 @@ pub struct Settings {
 // What accesses, from inside and outside, ticks and members of the sample population change beside the event counters, but for
 // the counter enables, which are a setting:
 // PMICNTR_EL0, the overflow flags of PMOVSSET_EL0 and PMOVSCLR_EL0, PMSICR_EL1, and the word at 0x838, NVMem[0x838].
-#[derive(Drop)]
+#[derive(Clone, Copy)]
 pub struct Values {
     pub instructions: u64,
     pub ovs: u64,
@@ -265,7 +266,7 @@ pub const FRESH_VALUES: Values = Values {
 
 // The machine record: the settings, the event number of each event counter, the exception level, the value of each event
 // counter, and the other values that commands change.
-#[derive(Drop)]
+#[derive(Clone, Copy)]
 pub struct Machine {
     pub settings: Settings,
     pub events: [u16; 31],
@@ -275,7 +276,7 @@ pub struct Machine {
 }
 
 // What a command answers, and the record after it.
-#[derive(Drop)]
+#[derive(Clone, Copy)]
 pub struct Outcome {
     pub answer: Answer,
     pub machine: Machine,

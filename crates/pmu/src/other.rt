@@ -7,7 +7,7 @@ use conversion::Converted;
 
 // How many bytes the other form has, and the number of the refusal: one of them is 0. Both are where the buffer is too short.
 #[repr(C)]
-#[derive(Drop)]
+#[derive(Clone, Copy)]
 pub struct Conversion {
     pub bytes: usize,
     pub refusal: usize,

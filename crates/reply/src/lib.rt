@@ -1,4 +1,5 @@
 // An answer in numbers, for C and Rust: a struct of 16 bytes, which x86-64 passes back in two registers.
+#![tactic(auto)]
 ghost use Rattle.std.specs.Prelude.{◌≡◌};
 ghost use Rattle.answer.specs.declared.Answer.{Answer};
 ghost use Rattle.reply.specs.Reply.{reply_of};
@@ -8,7 +9,7 @@ use answer::{Answer, Refusal};
 // The kind of an answer; the level that takes a trap, the number of Rt or that of a refusal; the cause of a trap; and a value
 // read or the syndrome of a trap. specs/Reply.antt has the numbers. What an answer has not is 0.
 #[repr(C)]
-#[derive(Drop)]
+#[derive(Clone, Copy)]
 pub struct Reply {
     pub kind: u32,
     pub detail: u16,

@@ -1,5 +1,6 @@
 // Runs the sessions in the files that its arguments name, and prints each name and the session's lines: the stored examples. A
 // file that can't be opened or read is named on standard error, and the next one follows; where nothing can be written, it ends.
+#![tactic(auto)]
 
 // One file: its name, and the lines of its session.
 fn show(name: &[u8]) -> bool {

@@ -1,4 +1,5 @@
 // What a decision about an access may look at, and the state test: refusals 10 to 17, lowest number first.
+#![tactic(auto)]
 ghost use Rattle.std.specs.Prelude.{◌≡◌};
 ghost use Rattle.state.specs.State.{any_wide, view_at, view_of, verdict_of};
 
@@ -8,7 +9,7 @@ use machine::{Machine, Settings};
 
 // What a decision about an access may look at: of the counters only refusal 15's test, `wide`, and of the overflow flags only
 // that of refusal 10, `ovslarge`.
-#[derive(Drop)]
+#[derive(Clone, Copy)]
 pub struct View {
     pub level: u8,
     pub settings: Settings,
@@ -17,7 +18,7 @@ pub struct View {
 }
 
 // The state test: the record is consistent, or refused with the lowest number that applies.
-#[derive(Drop)]
+#[derive(Clone, Copy)]
 pub enum Verdict {
     Consistent,
     Refused(Refusal),

@@ -1,5 +1,7 @@
 // Text written into a buffer as the bytes of a line: fixed bytes, decimal, uppercase hexadecimal. Each writer asks for room for
 // what it writes, and returns the place behind it.
+#![tactic(auto)]
+
 ghost use Rattle.std.specs.Prelude.{◌≡◌, ◌+◌, ◌<◌, ◌≤◌, length};
 ghost use Rattle.text.specs.Text.{decimal, hex_digit, hex};
 ghost use Rattle.text.specs.Written.{Written};

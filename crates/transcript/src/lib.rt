@@ -1,4 +1,5 @@
 // The whole session: commands out of bytes, each run on the record, its answer as a line.
+#![tactic(auto)]
 ghost use Rattle.std.specs.Prelude.{◌≡◌, ◌≤◌, length};
 ghost use Rattle.text.specs.Written.{Written};
 ghost use Rattle.form.specs.Form.{longest};
@@ -75,7 +76,7 @@ fn write_lines(f: Form, input: &[u8], out: &mut [u8]) -> usize
 
 // What became of a session: the output buffer is too short for what a session can print and was left alone, or so many bytes of
 // it hold the output.
-#[derive(Drop)]
+#[derive(Clone, Copy)]
 pub enum Output {
     Short,
     Bytes(usize),

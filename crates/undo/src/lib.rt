@@ -1,5 +1,6 @@
 // What takes a command back: the one field of the record that it may have changed, with what the field held, beside the level
 // and the overflow flags. The definitions are in specs/Undo.antt.
+#![tactic(auto)]
 ghost use Rattle.std.specs.Prelude.{◌≡◌};
 ghost use Rattle.undo.specs.Undo.{increments, held, field_of, ValueAt, HeldAt, settings_before, counters_before, undone};
 ghost use Rattle.undo.specs.Undo.{Typed};
@@ -9,14 +10,14 @@ use rules::Place;
 
 // A field of the record by its number, and what it held; `NOTHING` where no field was changed, and `INCREMENTS` where 1 was added
 // to event counters, of which the mask is kept.
-#[derive(Drop)]
+#[derive(Clone, Copy)]
 pub struct Change {
     pub field: u8,
     pub old: u64,
 }
 
 // What the record held before a command: the field that the command may have changed, the level, and the overflow flags.
-#[derive(Drop)]
+#[derive(Clone, Copy)]
 pub struct Undo {
     pub change: Change,
     pub level: u8,

@@ -1,20 +1,21 @@
 // The undo list: what takes back the latest commands, up to 64 of them, in words that the caller lends. Word 0 says how many
 // are listed, word 1 at which of the 64 places the next will stand, and from word 2 on each place has three words. Any words are
 // a list: the first two are read so that no place lies outside.
+#![tactic(auto)]
 ghost use Rattle.std.specs.Prelude.{◌≢◌, ◌≡◌, [], ◌∷◌, ℕ, ◌+◌, ◌/◌, ◌%◌, ◌^◌, ◌<◌, min, get_or, length, take};
 ghost use Rattle.undo_words.specs.Journal.{entries, entry_at, backwards, latest, rest, capacity};
 
 use undo::{Change, Undo};
 
 // What takes a command back, and a number of the caller's that goes with it.
-#[derive(Drop)]
+#[derive(Clone, Copy)]
 pub struct Entry {
     pub undo: Undo,
     pub tag: u32,
 }
 
 // The latest entry, if there is one.
-#[derive(Drop)]
+#[derive(Clone, Copy)]
 pub enum Recalled {
     Nothing,
     Latest(Entry),
