@@ -1,6 +1,7 @@
 // The machine record (MODEL F): one struct for each register or group of fields, and below it what it is in the fresh
 // record. The crate `fields` has the number and the largest value of each field.
 #![tactic(auto)]
+
 pub mod fresh; // fresh.rt: the fresh record
 
 use answer::Answer;

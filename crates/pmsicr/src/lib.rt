@@ -1,6 +1,7 @@
 // PMSICR_EL1 as a number: its two counters, which of its bits are implemented, and what becomes of it when profiling begins and
 // for a member of the sample population (MODEL J).
 #![tactic(auto)]
+
 ghost use Rattle.std.specs.Prelude.{◌≡◌};
 ghost use Rattle.pmsicr.specs.Pmsicr.{secondary, implemented, with_primary, with_secondary, started};
 ghost use Rattle.pmsicr.specs.Pmsicr.{secondary_counts, primary_counts, counted};

@@ -1,6 +1,7 @@
 // The record with one field stored, by the field's number: each part is made anew, in which the field with that number takes
 // the value and every other one stays. Nothing is tested here: the set command is in the crate `fields`.
 #![tactic(auto)]
+
 ghost use Rattle.std.specs.Prelude.{◌≡◌, ◌%◌};
 ghost use Rattle.store.specs.Store.{store_features, store_execution, store_pmcr, store_pmuserenr, store_hcr, store_mdcr2};
 ghost use Rattle.store.specs.Store.{store_mdcr3, store_scr, store_hdfgrtr, store_hdfgwtr, store_pmuacr, store_external};
