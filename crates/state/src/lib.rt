@@ -1,5 +1,6 @@
 // What a decision about an access may look at, and the state test: refusals 10 to 17, lowest number first.
 #![tactic(auto)]
+
 ghost use Rattle.std.specs.Prelude.{◌≡◌};
 ghost use Rattle.state.specs.State.{any_wide, view_at, view_of, verdict_of};
 
