@@ -26,7 +26,7 @@ use Rattle.rules.specs.Apply.{value_at, apply}
 use Rattle.rules.specs.Step.{Access, decide, step, access, run}
 use Rattle.rules.proofs.Alike.{Sound, Alike, Hides, view-alike, answers-alike, stays-alike, kept_by}
 use Rattle.rules.proofs.Applied.{settings-stay}
-use Rattle.rules.proofs.Hidden.{hpmn-hidden, pmuacr-hidden, f0-hidden, sampling-hidden}
+use Rattle.rules.proofs.HiddenCounters.{hpmn-hidden, pmuacr-hidden, f0-hidden, sampling-hidden}
 
 start-sound : {r : Machine} → Start r → Sound r
 unfolding view_of

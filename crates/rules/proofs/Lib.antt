@@ -10,7 +10,7 @@ pub mod Places
 pub mod Sweep
 pub mod Width
 pub mod Applied
-pub mod Hidden
+pub mod HiddenCounters
 pub mod Alike
 pub mod Isolation
 pub mod OverflowClaims

@@ -20,7 +20,7 @@ use Rattle.rules.specs.Apply.{apply}
 use Rattle.rules.specs.Step.{decide, step, access, run}
 use Rattle.rules.specs.Isolation.{from_levels}
 use Rattle.rules.specs.SamplingClaim.{without_sampling, SamplingKept, SamplingUnseen}
-use Rattle.rules.proofs.Hidden.{sampling-hidden}
+use Rattle.rules.proofs.HiddenCounters.{sampling-hidden}
 use Rattle.rules.proofs.Touches.{touches}
 
 -- a decision that touches neither
