@@ -1,6 +1,7 @@
 // The event counters, passed by reference: read, store, software increment with its overflow flags, and that taken back. A
 // counter has 64 bits with p5, else 32.
 #![tactic(auto)]
+
 ghost use Rattle.std.specs.Prelude.{◌≡◌, ◌%◌, ◌^◌, ◌&&◌, set, if◌then◌else◌, ◌==◌, nat_lt, slice_index, slice_set};
 ghost use Rattle.rules.specs.Ranges.{long_bit};
 ghost use Rattle.rules.specs.Overflow.{width, plus_one, carries, overflow_width, raised};

@@ -1,6 +1,7 @@
 // The flags of the external registers, counter enables and overflow flags alike: which of them are in reach, and how they are
 // set and cleared.
 #![tactic(auto)]
+
 ghost use Rattle.std.specs.Prelude.{◌≡◌};
 ghost use Rattle.bits.specs.Bits.{bit};
 ghost use Rattle.rules.specs.External.{shown_of};

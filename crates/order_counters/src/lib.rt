@@ -1,6 +1,7 @@
 // The order of traps of PMEVCNTR and PMSWINC (MODEL T): each rule's test, and the first that applies, with its cause. `rule3` is
 // T3, and so on.
 #![tactic(auto)]
+
 ghost use Rattle.std.specs.Prelude.{false, ◌≡◌};
 ghost use Rattle.rules.specs.declared.Register.TheVariants.{Pmevcntr, Pmswinc};
 ghost use Rattle.rules.specs.Traps.{disabled_target, stop_at_el3, counter_order, stop_of};

@@ -1,6 +1,7 @@
 // An instruction word taken apart, once: the register that it names, its direction and Rt, and the syndrome; and what a
 // write stores.
 #![tactic(auto)]
+
 ghost use Rattle.std.specs.Prelude.{◌≡◌};
 ghost use Rattle.rules.specs.Word.{is_read, rt, register, syndrome, decode, written};
 ghost use Rattle.word.specs.Codes.{has_place, place_of, codes};

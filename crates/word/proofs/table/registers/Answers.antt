@@ -2,12 +2,8 @@
 use mathlib.Core.Path.{refl}
 use Rattle.rules.specs.Word.{named}
 use Rattle.word.specs.Codes.{code_at, codes}
-use Rattle.word.proofs.table.registers.Statement.{statement}
-use Rattle.word.proofs.table.registers.Tie as tie
+use Rattle.word.proofs.table.registers.Goals as goal
 
-returns : tie.Need-returns
+pub returns : goal.returns
 unfolding named code_at codes
 returns c = refl
-
-pub registers-spec : {M : Type 1} → statement M
-registers-spec = tie.close (tie.spec returns)

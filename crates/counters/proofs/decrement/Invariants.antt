@@ -1,0 +1,16 @@
+use Rattle.std.proofs.Common.{◌≡◌, ◌-◌, ◌/◌, ◌^◌, ◌≤◌, length, sym, refl, ◌∙◌, arith, length-set}
+use Rattle.rules.proofs.Sweep.{sweep}
+use Rattle.rules.specs.Overflow.{width}
+use Rattle.counters.specs.Decremented.{minus_one, decremented}
+use Rattle.counters.proofs.Turns.{half, turn, done-early, done_all}
+use Rattle.counters.proofs.decrement.Given as goal
+
+abbrev pub invariant-loop-i : goal.invariant-loop-i
+invariant-loop-i l =
+    (l.i ≤ length l.initial.counters)
+    × (length l.counters ≡ length l.initial.counters)
+    × (l.counters ≡ sweep (decremented l.p5 l.events l.mask) l.i l.initial.counters)
+    × (l.rest ≡ l.mask / 2 ^ l.i)
+
+abbrev pub decreases-loop-i : goal.decreases-loop-i
+decreases-loop-i l = length l.initial.counters - l.i

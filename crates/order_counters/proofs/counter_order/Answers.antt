@@ -1,0 +1,53 @@
+-- `order_counters::counter_order` meets its contract: a case for each rule, and one for the end of the order.
+use mathlib.Core.Bool.{Bool}
+use mathlib.Core.Path.{◌≡◌, refl, ap}
+use Rattle.answer.specs.declared.Cause.TheVariants.{Pmuserenr}
+use Rattle.machine.proofs.First.{Picks, none, ◌↓◌, held, picked}
+use Rattle.state.specs.declared.View.{View}
+use Rattle.rules.specs.declared.Stop.{Stop}
+use Rattle.rules.specs.Traps.{counter_rules, counter_order}
+use Rattle.order_counters.proofs.counter_order.Goals as goal
+
+row :
+    (v : View) (disabled trapBit rule5 : Bool) {x : Stop} → Picks Stop.Pass x (counter_rules v disabled trapBit rule5)
+    → x ≡ counter_order v disabled trapBit rule5
+unfolding counter_order
+row v disabled trapBit rule5 p = picked (counter_rules v disabled trapBit rule5) p
+
+pub returns-then-rule1 : goal.returns-then-rule1
+unfolding counter_rules
+returns-then-rule1 c = row _ _ _ _ (held c.if-rule1.true refl)
+
+pub returns-then-rule2 : goal.returns-then-rule2
+unfolding counter_rules
+returns-then-rule2 c =
+    row _ _ _ _ (c.if-rule1.false ↓ held c.if-rule2.true (ap (λ l. Stop.Trap l Pmuserenr) c.disabled_target.ensures))
+
+pub returns-then-rule3 : goal.returns-then-rule3
+unfolding counter_rules
+returns-then-rule3 c =
+    row _ _ _ _ (c.if-rule1.false ↓ c.if-rule2.false ↓ held c.if-rule3.true refl)
+
+pub returns-then-rule4 : goal.returns-then-rule4
+unfolding counter_rules
+returns-then-rule4 c =
+    row _ _ _ _ (c.if-rule1.false ↓ c.if-rule2.false ↓ c.if-rule3.false ↓ held c.if-rule4.true refl)
+
+pub returns-then-rule5 : goal.returns-then-rule5
+unfolding counter_rules
+returns-then-rule5 c =
+    row _ _ _ _ (c.if-rule1.false ↓ c.if-rule2.false ↓ c.if-rule3.false ↓ c.if-rule4.false ↓ held c.if-rule5.true refl)
+
+pub returns-then-rule6 : goal.returns-then-rule6
+unfolding counter_rules
+returns-then-rule6 c =
+    row _ _ _ _
+    (c.if-rule1.false ↓ c.if-rule2.false ↓ c.if-rule3.false ↓ c.if-rule4.false ↓ c.if-rule5.false ↓
+    held c.if-rule6.true c.stop_at_el3.ensures)
+
+pub returns : goal.returns
+unfolding counter_rules
+returns c =
+    row _ _ _ _
+    (c.if-rule1.false ↓ c.if-rule2.false ↓ c.if-rule3.false ↓ c.if-rule4.false ↓ c.if-rule5.false ↓ c.if-rule6.false ↓
+    none refl)
