@@ -89,6 +89,7 @@ module _ (c : Cause) (l : Level) where
   not_spared : {later rows : List (Bool × Stop)} → Spared c rows → FirstAt (Stop.Trap l c) later rows → ⊥
   not_spared (p ⨾ q) (this t e) = true≢false (sym (is-by e) ∙ p)
   not_spared (p ⨾ q) (skip n f) = not_spared q f
+  not_spared {later = later} nil f = elim f [ ]
 
   -- once the control is opened, the rows behind decide, and none of them is one
   pub after :
@@ -98,3 +99,4 @@ module _ (c : Cause) (l : Level) where
   after (p ⇣ o) (skip n f) = let q = after o f in (rw (p.1 n) q.0, q.1)
   after (here {rest = rest} n p) (this t e) = (rw n refl, first-spared rest p)
   after (here n p) (skip m f) = absurd (not_spared p f)
+  after {later = later} end f = elim f [ ]

@@ -1,6 +1,7 @@
 // What an external access, a tick or a member of the sample population is to do, decided from a view in which there is no counter
 // and no overflow flag.
 #![tactic(auto)]
+
 mod reach; // reach.rt: how far an access at an offset gets
 
 ghost use Rattle.std.specs.Prelude.{◌≡◌};

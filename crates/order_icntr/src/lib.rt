@@ -1,6 +1,7 @@
 // The order of traps of PMICNTR (MODEL I): each rule's test, and the first that applies, with its cause. `rule3` is I3, and so
 // on.
 #![tactic(auto)]
+
 ghost use Rattle.std.specs.Prelude.{◌≡◌};
 ghost use Rattle.rules.specs.declared.Register.TheVariants.{Pmicntr};
 ghost use Rattle.rules.specs.Traps.{icntr_order, stop_of};

@@ -1,5 +1,6 @@
 // The order of traps of PMSICR (MODEL N): each rule's test, and the first that applies, with its cause. `rule3` is N3, and so on.
 #![tactic(auto)]
+
 ghost use Rattle.std.specs.Prelude.{◌≡◌};
 ghost use Rattle.rules.specs.declared.Register.TheVariants.{Pmsicr};
 ghost use Rattle.rules.specs.Traps.{nspb_bars, stop_of};

@@ -1,5 +1,6 @@
 // What a permitted access is to do (MODEL G), decided without a counter.
 #![tactic(auto)]
+
 pub mod enabled; // enabled.rt: which event counters are enabled
 
 ghost use Rattle.std.specs.Prelude.{◌≡◌};

@@ -1,5 +1,6 @@
 // One place of a record in parts, its event counters lent: what MRS answers of it, and what MSR stores to it.
 #![tactic(auto)]
+
 ghost use Rattle.places.specs.Places.{Shown, Put};
 
 use machine::{Settings, Values};

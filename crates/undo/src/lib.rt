@@ -1,6 +1,7 @@
 // What takes a command back: the one field of the record that it may have changed, with what the field held, beside the level
 // and the overflow flags. The definitions are in specs/Undo.antt.
 #![tactic(auto)]
+
 ghost use Rattle.std.specs.Prelude.{◌≡◌};
 ghost use Rattle.undo.specs.Undo.{increments, held, field_of, ValueAt, HeldAt, settings_before, counters_before, undone};
 ghost use Rattle.undo.specs.Undo.{Typed};

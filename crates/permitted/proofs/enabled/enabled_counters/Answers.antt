@@ -1,0 +1,10 @@
+-- `permitted::enabled::enabled_counters` meets its contract: its steps are those of `enabled-steps`, whose sum has 31 bits.
+use native.Mathlib.Omega.{arith}
+use Rattle.bits.proofs.FromBits.{from_bits-lt}
+use Rattle.rules.specs.Ranges.{counter_enabled}
+use Rattle.rules.proofs.Mask.{first-within, enabled-steps}
+use Rattle.permitted.proofs.enabled.enabled_counters.Goals as goal
+
+pub returns : goal.returns
+returns c =
+    simp (c.pick.ensures, c.pick-2.ensures, c.below_where-first_range.ensures) (enabled-steps c.args.s)
