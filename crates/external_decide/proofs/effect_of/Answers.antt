@@ -6,7 +6,7 @@ use Rattle.external_decide.proofs.effect_of.Goals as goal
 pub returns-in-Read : goal.returns-in-Read
 unfolding effect_of
 returns-in-Read c =
-    simp (c.in-Read.is, c.Read-of.ensures, c.reach.ensures)
+    simp (c.in-Read.is, c.read_of.ensures, c.reach.ensures)
 
 pub returns-in-Write : goal.returns-in-Write
 unfolding effect_of
