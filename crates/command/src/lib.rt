@@ -1,5 +1,6 @@
 // A session's bytes as commands: the command that they begin with, with its little-endian operands, or why there is none.
 #![tactic(auto)]
+
 pub mod reading; // reading.rt: how far reading goes on
 
 ghost use Rattle.std.specs.Prelude.{◌≡◌, ◌+◌, ◌≤◌, ◌<◌, ◌^◌, length, drop};

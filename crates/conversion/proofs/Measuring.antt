@@ -4,15 +4,12 @@ use mathlib.Core.Bool.{true, false}
 use mathlib.Core.List.{List, [], ◌∷◌, ◌++◌, append-nil}
 use mathlib.Core.Path.{◌≡◌, refl, sym, ◌∙◌, ap}
 use native.Mathlib.Omega.{arith}
-use types.Run.{OneOf, miss}
-use denote.Enum.Declared.{tag_of}
 use lib.ListN.{length, take, drop, length-drop, length-append}
 use lib.Seq.{drop-drop}
 use Rattle.answer.specs.declared.Refusal.{Refusal}
 use Rattle.command.specs.declared.Command.{Command}
 use Rattle.form.specs.declared.Form.{Form}
 use Rattle.command.specs.Command.{command_of, size_at, is_last, commands_from, commands_in}
-use Rattle.command.specs.contracts.Command as C'
 use Rattle.command.proofs.Fuel.{commands-last, commands-on}
 use Rattle.command.proofs.Place.{command-here, size-here}
 use Rattle.command.proofs.Sizes.{size-bounds}
@@ -21,11 +18,7 @@ use Rattle.conversion.specs.declared.Measured.{Measured}
 use Rattle.conversion.specs.Conversion.{bytes_in, bad_of, bad_in}
 use Rattle.conversion.specs.Call.{first_or_bytes, measure_of}
 
--- every variant but 9, that of bytes which are no command
-abbrev known : List ℕ
-known = 0 ∷ 1 ∷ 2 ∷ 3 ∷ 4 ∷ 5 ∷ 6 ∷ 7 ∷ 8 ∷ []
-
-pub not-bad : (c : Command) → OneOf known (tag_of C'.the_type c) → bad_of c ≡ []
+pub not-bad : (c : Command) → ((r : Refusal) → c ≡ Command.Bad r → ⊥) → bad_of c ≡ []
 not-bad Command.End t = refl
 not-bad (Command.Set f v) t = refl
 not-bad (Command.Level l) t = refl
@@ -35,7 +28,7 @@ not-bad (Command.Write o x) t = refl
 not-bad (Command.Tick p) t = refl
 not-bad Command.Back t = refl
 not-bad (Command.Member d) t = refl
-not-bad (Command.Bad r) t = absurd (miss known 9 tt t)
+not-bad (Command.Bad r) t = absurd (t r refl)
 
 -- the first command comes first
 pub first : (f : Form) (s : List ℕ) → (cs : List Command) × (commands_in f s ≡ command_of f s ∷ cs)

@@ -1,5 +1,6 @@
 // A session in its other form, written to the front of a buffer, or why there is none.
 #![tactic(auto)]
+
 ghost use Rattle.std.specs.Prelude.{◌≡◌, ◌+◌, ◌≤◌, length};
 ghost use Rattle.command.specs.Command.{commands_in};
 ghost use Rattle.form.specs.Form.{head_of, longest};

@@ -1,5 +1,6 @@
 // A command as bytes, in either form of a session.
 #![tactic(auto)]
+
 ghost use Rattle.std.specs.Prelude.{◌∷◌, ◌++◌, ◌≡◌, ◌+◌, ◌≤◌, length};
 ghost use Rattle.command.specs.Operand.{little_bytes};
 ghost use Rattle.text.specs.Written.{Written};

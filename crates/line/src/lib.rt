@@ -1,5 +1,6 @@
 // The line of an answer at its position, written into a buffer.
 #![tactic(auto)]
+
 ghost use Rattle.std.specs.Prelude.{◌+◌, ◌<◌, ◌≤◌, length};
 ghost use Rattle.answer.specs.declared.Answer.{Answer};
 ghost use Rattle.answer.specs.declared.Trap.{Trap};
@@ -49,6 +50,7 @@ fn refused(out: &mut [u8], at: usize, r: Refusal) -> usize
 }
 
 // The text of an answer, 26 bytes at most.
+#[tactic(auto, unfolding(crate::specs::Line::text_of))]
 fn answer_text(out: &mut [u8], at: usize, a: Answer) -> usize
     requires { at + 40 ≤ length out.old }
     ensures { Written out.old at (text_of a) out.new result × (result ≤ at + 26) }

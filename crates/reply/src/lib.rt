@@ -1,5 +1,6 @@
 // An answer in numbers, for C and Rust: a struct of 16 bytes, which x86-64 passes back in two registers.
 #![tactic(auto)]
+
 ghost use Rattle.std.specs.Prelude.{◌≡◌};
 ghost use Rattle.answer.specs.declared.Answer.{Answer};
 ghost use Rattle.reply.specs.Reply.{reply_of};
