@@ -1,6 +1,7 @@
 // The decision about an access: the state refusal, then what is undefined at once, then the order of traps, then what a
 // permitted access does. No counter is among what it is given.
 #![tactic(auto)]
+
 ghost use Rattle.std.specs.Prelude.{◌≡◌};
 ghost use Rattle.rules.specs.Traps.{stop_of};
 ghost use Rattle.rules.specs.Step.{undefined_at_once, decide_register, decide_decoded, decide};

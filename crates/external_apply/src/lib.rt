@@ -1,5 +1,6 @@
 // External accesses, the tick and members of the sample population: what was decided about them (`external_decide`), done.
 #![tactic(auto)]
+
 ghost use Rattle.std.specs.Prelude.{◌≡◌};
 ghost use Rattle.external_apply.specs.InParts.{Enacted, Responded};
 ghost use Rattle.rules.specs.declared.external.Effect.{Effect};

@@ -2,6 +2,7 @@
 // are listed, word 1 at which of the 64 places the next will stand, and from word 2 on each place has three words. Any words are
 // a list: the first two are read so that no place lies outside.
 #![tactic(auto)]
+
 ghost use Rattle.std.specs.Prelude.{◌≢◌, ◌≡◌, [], ◌∷◌, ℕ, ◌+◌, ◌/◌, ◌%◌, ◌^◌, ◌<◌, min, get_or, length, take};
 ghost use Rattle.undo_words.specs.Journal.{entries, entry_at, backwards, latest, rest, capacity};
 
