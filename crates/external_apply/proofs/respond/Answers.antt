@@ -7,5 +7,5 @@ use Rattle.external_apply.proofs.respond.Goals as goal
 pub returns : goal.returns
 unfolding view_of
 returns c =
-    whole (judge (view_of c.args.t2) c.args.q) c.args.t2 _
-    (c.in_parts-told.ensures c.args.t2.events)
+    whole (judge (view_of c.args.r) c.args.q) c.args.r _
+    (c.in_parts-told.ensures c.args.r.events)

@@ -14,7 +14,7 @@ unfolding entries
 returns c =
     let args = c.args in
     let l = args.list.now in
-    let m = c.put.new.0 in
+    let m = c.put.new.list in
     let n = get_or l 0 0 in
     let at = c.next-at.result in
     let count : min c.more-n.result capacity ≡ min (n + 1) capacity = omega (arith, c.more-n.ensures) in
