@@ -1,6 +1,7 @@
 // The access: decide, by a view in which there is no counter, then apply. `in_parts` has the counters of a record lent and
 // changed there, and `in_parts_decoded` so of a word that is taken apart already; `step` takes and returns a record by value.
 #![tactic(auto)]
+
 ghost use Rattle.std.specs.Prelude.{◌≡◌};
 ghost use Rattle.access.specs.InParts.{InParts, Applied};
 ghost use Rattle.machine.specs.Machine.{machine_of};

@@ -1,6 +1,7 @@
 // An access made in the words of a caller's: settings and values are taken from them, the event counters are passed by reference
 // where they stand, and what the access leaves is stored.
 #![tactic(auto)]
+
 ghost use Rattle.std.specs.Prelude.{◌≡◌, length};
 ghost use Rattle.rules.specs.Apply.{apply};
 ghost use Rattle.rules.specs.Step.{step};

@@ -1,6 +1,7 @@
 // What sets fields in the words of a caller's: the fresh record, the set and level commands, and what takes a command back. None
 // of these tests the record.
 #![tactic(auto)]
+
 pub mod back; // back.rt: what was kept of a command, put back
 pub mod word; // word.rt: all words, and one of them
 

@@ -1,5 +1,6 @@
 // External accesses, ticks and members made in the words of a caller's.
 #![tactic(auto)]
+
 ghost use Rattle.std.specs.Prelude.{◌≡◌, length};
 ghost use Rattle.external_apply.specs.InParts.{Responded};
 ghost use Rattle.rules.specs.External.{judge, enact};

@@ -1,5 +1,6 @@
 // What a command does to the undo list, whose words are lent: it is listed, empties the list, or takes the latest step back.
 #![tactic(auto)]
+
 ghost use Rattle.std.specs.Prelude.{cond, [], ◌≡◌};
 ghost use Rattle.answer.specs.Refused.{is_refused};
 ghost use Rattle.undo_words.specs.Journal.{entries, rest};

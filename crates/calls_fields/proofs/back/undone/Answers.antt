@@ -1,0 +1,27 @@
+-- `undone` meets its contract: each part of what was kept is put back where it stands in the words.
+use Prim.Native.Nat.{ℕ}
+use mathlib.Core.List.{List}
+use mathlib.Core.Path.{◌≡◌, sym, ◌∙◌, ap}
+use borrow.Author.Rules.{rules}
+use native.Mathlib.Omega.{arith}
+use lib.ListN.{set, length-set}
+use Rattle.machine.specs.declared.Values.{Values}
+use Rattle.store.specs.Store.{store_values}
+use Rattle.words.specs.Words.{word, values_of, settings_of, record_of, level_word}
+use Rattle.words.specs.Put.{put_values, put_counters}
+use Rattle.calls_fields.proofs.Taken.{put_back}
+use Rattle.calls_fields.proofs.back.undone.Goals as goal
+
+pub returns : goal.returns
+unfolding record_of settings_of
+returns c =
+    let b = c.args.m.now in
+    let u = c.args.u in
+    let kept = c.values-before.ensures ∙ ap (store_values u.change.field u.change.old) c.values-values.ensures in
+    put_back b c.counters-arg-1.given.0.1 u c.struct_known-2-1.given.1.0.fits _
+    (c.put.ensures
+    ∙ ap (λ (l : List ℕ). set l level_word u.level)
+    (c.values.ensures
+    ∙ (λ i. put_values
+    (record { instructions = (kept i).instructions; ovs = u.ovs; pmsicr = (kept i).pmsicr; nvmem = (kept i).nvmem })
+    (set (c.counters.ensures i) 0x34 (c.pick-cnten.ensures i)))))
