@@ -1,3 +1,4 @@
+-- `conversion::measure`: what is measured and what remains is the whole, and the loop goes on towards the end of the bytes.
 use Prim.Native.Nat.{◌-◌}
 use lib.ListN.{length}
 use Rattle.conversion.proofs.Measuring.{Measuring}

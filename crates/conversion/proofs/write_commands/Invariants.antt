@@ -1,3 +1,4 @@
+-- `conversion::write_commands`: what is written and what remains to be is the whole, and the loop goes on towards the end.
 use Prim.Native.Nat.{◌-◌}
 use lib.ListN.{length}
 use Rattle.conversion.proofs.Writing.{Writing}

@@ -1,3 +1,4 @@
+-- `encode::put`: what is stored and the bytes that are left are those of the whole number.
 use Prim.Native.Nat.{◌+◌}
 use mathlib.Core.Path.{◌≡◌}
 use lib.ListN.{length}
