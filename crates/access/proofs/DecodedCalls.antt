@@ -8,7 +8,7 @@ use Rattle.rules.specs.Word.{decode}
 use Rattle.rules.specs.Step.{step_decoded}
 use Rattle.undo.specs.declared.Change.{Change}
 use Rattle.undo.specs.Undo.{change_by, change_decoded}
-use Rattle.access.specs.Calls.{Obeyed, Reference, to, MayGive, CallsRun, CallsNoninterference}
+use Rattle.access.specs.Calls.{Obeyed, Reference, to, shared, MayGive, CallsRun, CallsNoninterference}
 use Rattle.access.specs.InParts.{InParts, Stayed, saying_so}
 use Rattle.access.proofs.Calls.{asked, said, stated, any, Exact, exact-calls-run, exact-noninterference}
 use Rattle.access.proofs.PartsCalls.{only_step, step-in-parts, step-stayed}
@@ -27,7 +27,7 @@ Call m w x r answer after =
     decoded'.ended
     (decoded'.clauses m.𝓛 m.𝓜.mem m.𝓡.run)
     (p.lifetime, (q.lifetime, tt))
-    (to p r.counters, (to q r.events, (r.settings, (r.level, (r.values, (decode w, (x, tt)))))))
+    (to p r.counters, (shared q r.events, (r.settings, (r.level, (r.values, (decode w, (x, tt)))))))
     (after.counters, (tt, (tt, (tt, (tt, (tt, (tt, tt)))))))
     (saying_so answer after k)
 

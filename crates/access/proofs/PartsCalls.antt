@@ -10,7 +10,7 @@ use Rattle.machine.specs.declared.Machine.{Machine}
 use Rattle.rules.specs.Step.{step}
 use Rattle.undo.specs.declared.Change.{Change}
 use Rattle.undo.specs.Undo.{change_by}
-use Rattle.access.specs.Calls.{Obeyed, Reference, to, MayGive, CallsRun, CallsNoninterference}
+use Rattle.access.specs.Calls.{Obeyed, Reference, to, shared, MayGive, CallsRun, CallsNoninterference}
 use Rattle.access.specs.InParts.{InParts, Stayed, saying_so}
 use Rattle.access.proofs.Calls.{asked, said, stated, any, OfStep, Exact, exact-calls-run, exact-noninterference}
 use Rattle.access.proofs.Whole.{whole}
@@ -45,7 +45,7 @@ Call m w x r answer after =
     in-parts'.ended
     (in-parts'.clauses m.𝓛 m.𝓜.mem m.𝓡.run)
     (p.lifetime, (q.lifetime, tt))
-    (to p r.counters, (to q r.events, (r.settings, (r.level, (r.values, (w, (x, tt)))))))
+    (to p r.counters, (shared q r.events, (r.settings, (r.level, (r.values, (w, (x, tt)))))))
     (after.counters, (tt, (tt, (tt, (tt, (tt, (tt, tt)))))))
     (saying_so answer after k)
 

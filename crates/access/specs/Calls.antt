@@ -8,7 +8,7 @@ use Rattle.std.specs.Prelude.{ℕ, Bool, true, List, [], ◌∷◌, ◌≡◌}
 use seplogic.Bi.Sat.{Sat}
 use base.Fml.{Lft, GName}
 use contract.Lifetimes.{Lfts}
-use Rattle.std.specs.Borrow.{Bor}
+use Rattle.std.specs.Borrow.{Bor, MutBor}
 use denote.Triple.Clauses.{Ended, Clauses, Lasts, at_exit}
 use denote.Triple.Entry.{Args, Res}
 use borrow.Fn.World.{World, Pr}
@@ -44,9 +44,13 @@ pub record Reference : Type 0 where
   pub ptr : ℕ × ℕ
   pub name : GName
 
--- MODEL M10: the reference, while the value x is behind it
-abbrev pub to : {X : Type 0} → Reference → X → Bor X
+-- MODEL M10: the reference, while the value x is behind it and may be changed there
+abbrev pub to : {X : Type 0} → Reference → X → MutBor X
 to p x = record { ref_ptr = p.ptr; ghost_name = p.name; now = x }
+
+-- MODEL M10: the reference, while the value x is behind it and stays: of such a one no name is tracked
+abbrev pub shared : {X : Type 0} → Reference → X → Bor X
+shared p x = record { ref_ptr = p.ptr; now = x }
 
 -- MODEL M10: for a step, that a call with this word and this operand, from this record, may give this answer and this record
 abbrev pub MayGive : Type 2

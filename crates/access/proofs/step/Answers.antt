@@ -4,4 +4,4 @@ use Rattle.access.proofs.step.Goals as goal
 
 pub returns : goal.returns
 returns c =
-    whole _ _ c.args.t3 _ _ _ c.in_parts-said.ensures
+    whole _ _ c.args.r _ _ _ c.in_parts-said.ensures

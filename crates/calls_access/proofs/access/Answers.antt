@@ -14,7 +14,7 @@ pub returns : goal.returns
 unfolding step view_of record_of
 returns c =
     let b = c.args.m.now in
-    subst (λ (d : Decision). Did (apply d (record_of b)) (change_of d (record_of b)) b c.apply.result c.apply.new.m.0)
+    subst (λ (d : Decision). Did (apply d (record_of b)) (change_of d (record_of b)) b c.apply.result c.apply.new.m)
     (c.decide-d.ensures ∙ ap (λ v. decide v c.args.w c.args.x)
     (c.view.ensures ∙ (λ i. view_at (level_of (word b)) (c.settings-s.ensures i) (counters_of b)
     (c.values-v.ensures i).ovs)))
