@@ -1,5 +1,6 @@
 // A command run on the record and on the undo list, whose words are lent.
 #![tactic(auto)]
+
 ghost use Rattle.std.specs.Prelude.{false, ◌≡◌};
 ghost use Rattle.command.specs.Command.{is_access};
 ghost use Rattle.machine.specs.Machine.{machine_of};

@@ -2,7 +2,7 @@
 use mathlib.Core.List.{List}
 use mathlib.Core.Path.{◌≡◌, sym, ◌∙◌, subst}
 use borrow.Author.Rules.{rules}
-use lib.ListN.{length-set}
+use native.Mathlib.Omega.{arith}
 use Rattle.external_apply.specs.InParts.{InParts}
 use Rattle.machine.specs.declared.Settings.{Settings}
 use Rattle.machine.specs.declared.Values.{Values}
@@ -25,6 +25,6 @@ returns c =
     c.told-t.result)
     (λ i. (c.settings-s.ensures i, c.values-v.ensures i))
     (c.told-t.ensures (events_of b)) in
-    made b (sym (length-set b 0x34 c.told-t.result.cnten) ∙ c.before.values-arg2.given.0.1)
+    made b (omega arith)
     (judge (view_of (record_of b)) q)
     c.told-t.result _ at-record c.values.ensures
