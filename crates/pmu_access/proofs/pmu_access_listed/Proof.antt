@@ -34,7 +34,7 @@ returns-2 c =
     let called = at-access.access.ensures.called in
     let same = typed_call (step w x) s (sym at-untyped.untyped.ensures ∙ at-if1.if1.false) in (
       called-reply _ (call_of (step w x) s) s _ _ called same _ c.reply-of.ensures,
-      access-listed w x (record_of s) at_Typed.type-inv.ensures (call_of (step w x) s) same
+      access-listed w x (record_of s) at_Typed.type_inv.ensures (call_of (step w x) s) same
           _ called.answered _ at-access.access.ensures.change _ _ c.before.note.ensures,
     )
 
