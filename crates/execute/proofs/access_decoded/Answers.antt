@@ -10,6 +10,6 @@ returns c =
     let parts = c.in_parts_decoded-said.ensures in
     record {
       parts = parts;
-      listed = access-listed args.i args.x m c.before.before.before.before.before.type_inv.ensures parts args.list.now _ 0 c.note.ensures;
+      listed = access-listed args.i args.x m c.typed.ensures parts args.list.now _ 0 c.note.ensures;
       kept = c.note.ensures;
     }
