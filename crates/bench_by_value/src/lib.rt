@@ -1,6 +1,7 @@
 // A list of accesses run in a loop by the by-value step, so that bench/ can count and time it. The settings come from the caller
 // too, so that the compiler cannot know them. The step has one caller in the library, as in `transcript`.
 #![tactic(auto)]
+
 ghost use Rattle.std.specs.Prelude.{◌≡◌};
 ghost use Rattle.bench_by_value.specs.Measure.{started, worth, total};
 

@@ -1,6 +1,7 @@
 // The access of the model call by call, for programs in C and Rust: a static library of its own, so that the code that decides is
 // there once, for these two exports. bindings/pmu_calls.h declares them. Whatever stands in the words, every call answers.
 #![tactic(auto)]
+
 ghost use Rattle.std.specs.Prelude.{◌≡◌, length};
 ghost use Rattle.calls.specs.Listed.{Listed};
 ghost use Rattle.calls.specs.Replied.{Replied};

@@ -2,6 +2,7 @@
 // access, which the crate `pmu_access` exports. bindings/pmu_calls.h declares them. Whatever stands in the words, every call
 // answers. These list nothing; listed.rt has those that do.
 #![tactic(auto)]
+
 pub mod listed; // listed.rt: the calls that list what they did, and the step back
 
 ghost use Rattle.std.specs.Prelude.{◌≡◌, replicate};

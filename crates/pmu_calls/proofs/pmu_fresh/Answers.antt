@@ -3,11 +3,7 @@ use mathlib.Core.Path.{◌∙◌, ap}
 use borrow.Author.Rules.{rules}
 use Rattle.calls_fields.proofs.Zeros.{fresh-words}
 use Rattle.words.specs.Words.{record_of}
-use Rattle.pmu_calls.proofs.pmu_fresh.Statement.{statement}
-use Rattle.pmu_calls.proofs.pmu_fresh.Tie as tie
+use Rattle.pmu_calls.proofs.pmu_fresh.Goals as goal
 
-returns : tie.Need-returns
+pub returns : goal.returns
 returns c = (c.fresh.ensures, ap record_of c.fresh.ensures ∙ fresh-words)
-
-pub pmu-fresh-spec : {M : Type 1} → statement M
-pmu-fresh-spec = tie.close (tie.spec (λ c κs. search rules) returns)
