@@ -1,5 +1,6 @@
 // The whole session: commands out of bytes, each run on the record, its answer as a line.
 #![tactic(auto)]
+
 ghost use Rattle.std.specs.Prelude.{◌≡◌, ◌≤◌, length};
 ghost use Rattle.text.specs.Written.{Written};
 ghost use Rattle.form.specs.Form.{longest};

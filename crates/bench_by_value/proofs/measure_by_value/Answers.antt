@@ -15,10 +15,10 @@ loop-i-init c = (
 pub loop-i-preserved : goal.loop-i-preserved
 loop-i-preserved c = (
   omega arith,
-  omega (arith, c.wrapping_add_u64-sum.ensures),
+  omega (arith, c.wrapping_add_u64-sum.ensures.value),
   summed-next c.args.list.now c.args.x c.loop-i.m c.loop-i.sum
       c.loop-i-test.true c.step-o.ensures
-      (c.wrapping_add_u64-sum.ensures
+      (c.wrapping_add_u64-sum.ensures.value
       ∙ ap (λ (n : ℕ). (c.loop-i.sum + n) % 2 ^ 64) c.worth.ensures)
       ∙ c.loop-i.invariant.2,
 )

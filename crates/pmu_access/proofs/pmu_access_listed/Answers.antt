@@ -19,6 +19,6 @@ returns c =
     let called = c.access-acted.ensures.called in
     let same = typed_call (step w x) s (sym c.untyped.ensures ∙ c.if-untyped.false) in (
       called-reply _ (call_of (step w x) s) s _ _ called same _ c.reply_of.ensures,
-      access-listed w x (record_of s) c.before.before.before.before.before.before.before.before.type-inv.ensures (call_of (step w x) s) same
+      access-listed w x (record_of s) c.typed.ensures (call_of (step w x) s) same
           _ called.answered _ c.access-acted.ensures.change _ _ c.note.ensures,
     )
