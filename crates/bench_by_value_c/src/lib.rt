@@ -1,5 +1,6 @@
 // The loop of `bench_by_value` as the export of a static library, for bench/: that crate itself is a library, for the other loops.
 #![tactic(auto)]
+
 ghost use Rattle.std.specs.Prelude.{◌≡◌};
 ghost use Rattle.bench_by_value.specs.Measure.{started, total};
 
