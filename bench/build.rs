@@ -1,4 +1,4 @@
-//! Links the measured libraries of target/staticlib, which `rt staticlib` writes.
+//! Links the measured libraries of target/staticlib, which tools/build writes.
 
 fn main() {
     let folder = concat!(env!("CARGO_MANIFEST_DIR"), "/../target/staticlib");

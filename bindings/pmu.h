@@ -1,4 +1,4 @@
-/* The session function and the conversion of the proved model, for C: link target/staticlib/libpmu.a, which `rt staticlib pmu`
+/* The session function and the conversion of the proved model, for C: link target/staticlib/libpmu.a, which `tools/build pmu`
  * writes. The model call by call is in pmu_calls.h, for libpmu_access.a and libpmu_calls.a. Neither header includes the other,
  * and a program may use both, and link all three.
  *

@@ -1,5 +1,5 @@
 /* The proved model call by call, for C (MODEL X13 to X16): link target/staticlib/libpmu_access.a, which has pmu_access and
- * pmu_access_listed, and libpmu_calls.a, which has all other calls. `rt staticlib pmu_access` and `rt staticlib pmu_calls` write
+ * pmu_access_listed, and libpmu_calls.a, which has all other calls. `tools/build pmu_access pmu_calls` writes
  * them. Whole sessions are in pmu.h, for libpmu.a. Neither header includes the other, and a program may use both, and link all
  * three.
  *

@@ -1,13 +1,13 @@
 //! Links target/staticlib/libpmu.a and, with the feature `calls`, libpmu_access.a and
-//! libpmu_calls.a beside it. `rt staticlib` writes them.
+//! libpmu_calls.a beside it. tools/build writes them.
 
 use std::path::Path;
 
-/// Links a library that `rt staticlib` writes.
+/// Links a library that tools/build writes.
 fn link(folder: &str, name: &str) {
     let file = format!("{folder}/lib{name}.a");
     if !Path::new(&file).exists() {
-        panic!("target/staticlib/lib{name}.a is not there: run `rt staticlib {name}` first");
+        panic!("target/staticlib/lib{name}.a is not there: run `tools/build {name}` first");
     }
     println!("cargo:rustc-link-lib=static={name}");
     println!("cargo:rerun-if-changed={file}");

@@ -45,9 +45,8 @@ pub fn worth(a: Answer) -> u64
     }
 }
 
-// The sum of a list's answers, by the by-value step.
-#[unsafe(no_mangle)]
-pub extern "C" fn measure_by_value(sets: &[u64], list: &[u64], x: u64) -> u64
+// The sum of a list's answers, by the by-value step. The crate `bench_by_value_c` exports it.
+pub fn measure_by_value(sets: &[u64], list: &[u64], x: u64) -> u64
     ensures { result ≡ total list.now x (started sets.now) }
 {
     let mut m = start(sets);

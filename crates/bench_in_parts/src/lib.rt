@@ -2,6 +2,7 @@
 // registers made before it, as in a session, so that bench/ can count and time it. The loop is that of `bench_by_value`, in a
 // library of its own, so that each step has one caller.
 #![tactic(auto)]
+
 ghost use Rattle.std.specs.Prelude.{◌≡◌};
 ghost use Rattle.bench_by_value.specs.Measure.{started, total};
 

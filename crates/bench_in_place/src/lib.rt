@@ -1,6 +1,7 @@
 // A list of accesses run in a loop by the step with the record behind a reference, so that bench/ can count and time it: the
 // loop of `bench_by_value`, in a library of its own, so that each step has one caller.
 #![tactic(auto)]
+
 ghost use Rattle.std.specs.Prelude.{◌≡◌};
 ghost use Rattle.bench_by_value.specs.Measure.{started, total};
 

@@ -1,5 +1,6 @@
 // The registers of a list of words found in a loop, and nothing else of an access, so that bench/ can count and time it.
 #![tactic(auto)]
+
 ghost use Rattle.std.specs.Prelude.{◌≡◌};
 ghost use Rattle.bench_register.specs.Measure.{worth, total};
 

@@ -2,6 +2,7 @@
 // answer; here the record is passed by value. Each answer is printed as a session prints it, the next access gets the record that
 // came back, and at the end a counter of the last record is printed.
 #![tactic(auto)]
+
 ghost use Rattle.std.specs.Prelude.{[], ◌∷◌, ◌≡◌, ◌<◌};
 ghost use Rattle.fields.specs.Set.{set, set_all, set_level};
 ghost use Rattle.machine.specs.Machine.{fresh};
@@ -9,6 +10,7 @@ ghost use Rattle.rules.specs.Step.{step};
 
 use answer::Answer;
 use machine::Machine;
+use std::io::Print;
 
 // The record after the set command: v to the field with number f.
 fn with(r: Machine, f: u8, v: u64) -> Machine
@@ -29,36 +31,36 @@ fn start() -> Machine
 }
 
 // Prints the line of an answer, as a session does.
-fn print(position: u64, a: Answer)
+fn print(output: &impl Print, position: u64, a: Answer)
     requires { position < 10000 }
 {
     let mut out = [0u8; 45];
     let end = line::line(&mut out, 0, position, a);
-    io::write_all(libc::STDOUT_FILENO, &out[..end]);
+    let _ = output.write_all(&out[..end]);
 }
 
 // The access at this position, with word w and operand x: its line is printed, and the record that came back is returned.
-fn access(r: Machine, position: u64, w: u32, x: u64) -> Machine
+fn access(output: &impl Print, r: Machine, position: u64, w: u32, x: u64) -> Machine
     requires { position < 10000 }
     ensures { result ≡ (step w x r).machine }
 {
     let o = in_place::owned(r, w, x);
     let a = o.answer;
-    print(position, a);
+    print(output, position, a);
     o.machine
 }
 
-fn main() {
+fn main(rt: HostRuntime) {
+    let output = rt.stdout();
     // MSR of counter 1: without p5 the low 32 bits of the operand, 41, are stored
-    let stored = access(start(), 1, 0xD51BE822, 0x100000029);
+    let stored = access(&output, start(), 1, 0xD51BE822, 0x100000029);
     // PMSWINC, of which bit 1 counts
-    let counted = access(stored, 2, 0xD51B9C81, 2);
+    let counted = access(&output, stored, 2, 0xD51B9C81, 2);
     // MRS of counter 1
-    let read = access(counted, 3, 0xD53BE822, 0);
+    let read = access(&output, counted, 3, 0xD53BE822, 0);
     // MRS of counter 2: N is 2, so it is undefined, and the record stays
-    let last = access(read, 4, 0xD53BE842, 0);
+    let last = access(&output, read, 4, 0xD53BE842, 0);
     let counters = last.counters;
-    io::write_all(libc::STDOUT_FILENO, b"counter 1 is ");
-    io::print_decimal(libc::STDOUT_FILENO, counters[1]);
-    io::write_all(libc::STDOUT_FILENO, b"\n");
+    let one = counters[1];
+    let _ = println!(output; "counter 1 is {one}");
 }

@@ -1,37 +1,39 @@
 // The streams of a program: a session's bytes read, its lines written to standard output, and on standard error what went wrong
-// with either. The exit status of a program of Rattle is 0 all the same.
+// with either. A program passes its streams to these functions. The exit status of such a program is 0 all the same.
 #![tactic(auto)]
+
 ghost use Rattle.console.specs.Input.{Fits};
 
+use std::io;
+use std::io::{Cursor, Print, Read, Write};
 use transcript::Output;
 
-// What came of reading an input: so many bytes, at the buffer's front, or a read that failed.
+// What came of reading an input: so many bytes, at the buffer's front, or a read that failed, and why.
 #[derive(Clone, Copy)]
 pub enum Input {
     Bytes(usize),
-    Failed,
+    Failed(io::Error),
 }
 
 // One read to the buffer's front. No byte comes where the input has ended.
-fn read_once(fd: i32, buffer: &mut [u8]) -> Input
+fn read_once(from: &mut impl Read, buffer: &mut [u8]) -> Input
     ensures { Fits result buffer.new }
 {
-    let got = libc::read(fd, buffer);
-    if got < 0 {
-        return Input::Failed;
+    match from.read(buffer) {
+        Ok(n) => Input::Bytes(n),
+        Err(why) => Input::Failed(why),
     }
-    Input::Bytes(io::count(got, buffer))
 }
 
 // Reads until the buffer is full or the input ends, unless a read fails.
-pub fn read(fd: i32, buffer: &mut [u8]) -> Input
+pub fn read(from: &mut impl Read, buffer: &mut [u8]) -> Input
     ensures { Fits result buffer.new }
 {
     let mut at: usize = 0;
     while at < buffer.len() {
-        match read_once(fd, &mut buffer[at..]) {
-            Input::Failed => {
-                return Input::Failed;
+        match read_once(from, &mut buffer[at..]) {
+            Input::Failed(why) => {
+                return Input::Failed(why);
             }
             Input::Bytes(n) => {
                 if n == 0 {
@@ -44,31 +46,62 @@ pub fn read(fd: i32, buffer: &mut [u8]) -> Input
     Input::Bytes(at)
 }
 
-// MODEL X7: writes the bytes to standard output and answers true, or says on standard error why not all could be written.
-pub fn write(bytes: &[u8]) -> bool {
-    let written = io::write_all(libc::STDOUT_FILENO, bytes);
-    if !written {
-        os::fail(b"standard output");
+// The words of a failure alone: behind those of the system its number stands in brackets.
+fn words(shown: &str) -> &str {
+    match shown.split_once(" (os error ") {
+        Some((words, _)) => words,
+        None => shown,
     }
-    written
+}
+
+// Says on standard error what failed, and why.
+pub fn fail(error: &impl Print, what: &[u8], why: io::Error) {
+    let mut text = [0u8; 128];
+    let mut to = Cursor::new(&mut text[..]);
+    let _ = write!(to, "{why}");
+    let n = (to.position() as usize).min(128);
+    let _ = error.write_all(what);
+    let _ = error.write_all(b": ");
+    let _ = match std::str::from_utf8(&text[..n]) {
+        Ok(shown) => error.write_all(words(shown).as_bytes()),
+        Err(_) => error.write_all(b"failed"),
+    };
+    let _ = error.write_all(b"\n");
+}
+
+// MODEL X7: writes the bytes to standard output and answers true, or says on standard error why not all could be written.
+pub fn write(output: &impl Print, error: &impl Print, bytes: &[u8]) -> bool {
+    match output.write_all(bytes) {
+        Ok(()) => true,
+        Err(why) => {
+            fail(error, b"standard output", why);
+            false
+        }
+    }
 }
 
 // Runs the session and writes its output, as `write` does.
-fn print(input: &[u8]) -> bool {
+fn print(output: &impl Print, error: &impl Print, input: &[u8]) -> bool {
     let mut out = [0u8; transcript::ROOM];
     match transcript::session(input, &mut out) {
-        Output::Bytes(k) => write(&out[..k]),
+        Output::Bytes(k) => write(output, error, &out[..k]),
         Output::Short => false,
     }
 }
 
 // MODEL X6 and X7: reads a session into the buffer and prints its lines, or says on standard error that `name` can't be read and
 // runs nothing. False where lines could not be written.
-pub fn run(fd: i32, name: &[u8], buffer: &mut [u8]) -> bool {
-    match read(fd, buffer) {
-        Input::Bytes(n) => print(&buffer[..n]),
-        Input::Failed => {
-            os::fail(name);
+pub fn run(
+    from: &mut impl Read,
+    name: &[u8],
+    output: &impl Print,
+    error: &impl Print,
+    buffer: &mut [u8],
+) -> bool {
+    match read(from, buffer) {
+        Input::Bytes(n) => print(output, error, &buffer[..n]),
+        Input::Failed(why) => {
+            fail(error, name, why);
             true
         }
     }

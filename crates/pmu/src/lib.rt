@@ -1,6 +1,7 @@
 // The session function and the conversion for programs in C and Rust: the static library's exports, on numbers and byte slices.
 // bindings/pmu.h declares them. They ask nothing of the bytes that they are given.
 #![tactic(auto)]
+
 pub mod other; // other.rt: the conversion
 
 ghost use Rattle.std.specs.Prelude.{◌≡◌};

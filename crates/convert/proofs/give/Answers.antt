@@ -1,0 +1,12 @@
+-- `give`: the bytes that the conversion says it wrote are bytes of the buffer.
+use Rattle.std.proofs.Common.{sym, ◌∙◌}
+use lib.Seq.{length-take-le}
+use Rattle.conversion.proofs.Whole.{bytes_fit}
+use Rattle.convert.proofs.give.Goals as goal
+
+pub slice_bounds-out-end : goal.slice_bounds-out-end
+slice_bounds-out-end g c = bytes_fit _ _ (sym c.in-Bytes.is ∙ c.convert.ensures.0) c.convert.ensures.1
+
+pub slice_bounds-write-end : goal.slice_bounds-write-end
+slice_bounds-write-end g c =
+    sym (length-take-le _ _ (bytes_fit _ _ (sym c.in-Bytes.is ∙ c.convert.ensures.0) c.convert.ensures.1))
