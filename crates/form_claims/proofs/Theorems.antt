@@ -130,7 +130,7 @@ none-and-end (c ∷ cs) h =
 pub has_other : HasOther
 unfolding conversion_of converted
 has_other s cs c =
-    let good : bad_in (commands_of s) ≡ [] = ap bad_in c.reads ∙ none-and-end cs c.well-formed in (
+    let good : bad_in (commands_of s) ≡ [] = ap bad_in c.reads ∙ none-and-end cs c.good in (
       session_in (other_form (form_of s)) (commands_of s),
       record {
         bytes = c.bytes;

@@ -11,7 +11,7 @@ use base.Stored.{Coded-set}
 use borrow.Fn.World.{World}
 use ghost.Sets.{retract_set}
 use lib.ListN.{take}
-use Rattle.access.specs.Calls.{Obeyed, Reference, to}
+use Rattle.access.specs.Calls.{Obeyed, Reference, to, shared}
 use Rattle.access.specs.InParts.{Stayed, saying_so}
 use Rattle.access.proofs.Calls.{asked, said, stated}
 use Rattle.answer.specs.declared.Answer.{Answer}
@@ -62,7 +62,7 @@ Access w word x m words answer left between =
     (access'.clauses w.𝓛 w.𝓜.mem w.𝓡.run)
     (p.lifetime, (q.lifetime, (l.lifetime, tt))) (
       to p m.counters,
-      (to q m.events, (m.settings, (m.level, (m.values, (decode word, (x, (to l words, tt))))))),
+      (shared q m.events, (m.settings, (m.level, (m.values, (decode word, (x, (to l words, tt))))))),
     )
     (left.counters, (tt, (tt, (tt, (tt, (tt, (tt, (between, tt))))))))
     (saying_so answer left k)
