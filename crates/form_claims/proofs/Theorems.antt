@@ -134,7 +134,7 @@ has_other s cs c =
       session_in (other_form (form_of s)) (commands_of s),
       record {
         bytes = c.bytes;
-        converts = rw (le-ltb longest (length (body_of s)) c.short-enough, good, c.ranges);
+        converts = rw (le-ltb longest (length (body_of s)) c.short-enough, good, c.fits);
       },
     )
 
