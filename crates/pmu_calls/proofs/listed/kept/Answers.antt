@@ -1,6 +1,4 @@
 -- `kept` meets its contract: what the words hold.
-use mathlib.Core.Path.{◌≡◌}
-use borrow.Author.Rules.{rules}
 use Rattle.words.specs.Words.{record_of}
 use Rattle.pmu_calls.proofs.listed.kept.Goals as goal
 

@@ -1,5 +1,4 @@
 -- `pmu_back` meets its contract: nothing is listed, or the latest entry is put back.
-use borrow.Author.Rules.{rules}
 use Rattle.pmu_calls.proofs.Back.{nothing, latest-of}
 use Rattle.pmu_calls.proofs.listed.pmu_back.Goals as goal
 

@@ -1,5 +1,4 @@
 -- `pmu_level_listed` meets its contract: `pmu_level`, and what is kept of it is listed.
-use borrow.Author.Rules.{rules}
 use Rattle.calls.proofs.Refused.{made-reply}
 use Rattle.pmu_calls.proofs.Kept.{level-listed}
 use Rattle.pmu_calls.proofs.listed.pmu_level_listed.Goals as goal

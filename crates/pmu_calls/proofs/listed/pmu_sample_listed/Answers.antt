@@ -1,6 +1,5 @@
 -- `pmu_sample_listed` meets its contract: the call without a list, and what is kept of it is listed.
 use mathlib.Core.Path.{refl}
-use borrow.Author.Rules.{rules}
 use Rattle.calls.proofs.Refused.{called-reply}
 use Rattle.rules.specs.External.{member}
 use Rattle.words.specs.Call.{call_of}

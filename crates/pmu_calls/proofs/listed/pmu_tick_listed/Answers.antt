@@ -1,6 +1,5 @@
 -- `pmu_tick_listed` meets its contract: the call without a list, and what is kept of it is listed.
 use mathlib.Core.Path.{refl}
-use borrow.Author.Rules.{rules}
 use Rattle.calls.proofs.Refused.{called-reply}
 use Rattle.calls.specs.Replied.{tick_call}
 use Rattle.pmu_calls.proofs.Kept.{tick-listed}
