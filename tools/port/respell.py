@@ -4,8 +4,10 @@
 usage: python3 tools/port/respell.py      at the top, once, after /opt/rattle/port/port.py
 
 It reads the names that specs/ and proofs/ define at the top of a file or of a module in it. A name that begins in lower case and
-has capitals becomes snake case, part by part where a dash joins parts; all others stay. It turns each in every .antt and .rt file (there in clauses, imports and comments), in must-fail edits and in the pages. Functions of src/, exported
-names, strings, inputs and outputs keep their names. Where two names fall together, or a new name is in use already, it stops.
+has capitals becomes snake case, part by part where a dash joins parts; all others stay. It turns each in every .antt and .rt
+file (there in clauses, imports and comments), in must-fail edits and in the pages. Functions of src/, exported names, strings,
+inputs and outputs keep their names. Where two names fall together it stops; names that are in use already it lists (functions of
+src/ mostly, whose definitions have their name).
 """
 import glob
 import os
@@ -16,7 +18,7 @@ import sys
 CHOSEN = {"getD-from": "get_or-from", "getD-mapFrom": "get_or-map_from"}
 # types in lower case that only some files have: a name that other files use for something else
 HERE = [
-    ("crates/undo_claims/proofs/**/*.antt", {"all": "AllOf"}),
+    ("crates/undo_claims/proofs/Reached.antt", {"all": "AllOf"}),
     ("crates/causes/proofs/Hpmn.antt", {"order": "Order"}),
 ]
 

@@ -1,22 +1,20 @@
 -- Noninterference of accesses on words: a run of calls replies and leaves what the list, run by the definition, does.
-use Prim.Native.Nat.{ℕ, ◌^◌, ◌<◌, ◌≤◌}
-use mathlib.Core.Bool.{Bool, true, false, cond, ◌&&◌}
+use Prim.Native.Nat.{ℕ, ◌≤◌}
+use mathlib.Core.Bool.{Bool, true, false, cond}
 use mathlib.Core.List.{List, [], ◌∷◌, map}
 use mathlib.Core.Path.{◌≡◌, refl, sym, ◌∙◌, ap, subst}
 use native.Mathlib.Omega.{arith}
 use borrow.Author.Tests.{leb-true}
 use lib.Dec.{leb}
-use lib.ListN.{length, set, length-set, take, drop, length-take, length-drop}
-use Rattle.answer.specs.declared.Answer.{Answer}
+use lib.ListN.{length, set, length-set, drop, length-take, length-drop}
 use Rattle.answer.specs.Refused.{is_refused}
 use Rattle.machine.proofs.Bools.{and_left, and_right}
 use Rattle.machine.specs.declared.Machine.{Machine}
 use Rattle.machine.specs.declared.Outcome.{Outcome}
 use Rattle.machine.specs.declared.Settings.{Settings}
-use Rattle.machine.specs.Machine.{with_level}
 use Rattle.reply.specs.declared.Reply.{Reply}
 use Rattle.reply.specs.Reply.{reply_of}
-use Rattle.rules.specs.Isolation.{Named, Start, Claim, Isolated, SameExcept, Kept, from_levels}
+use Rattle.rules.specs.Isolation.{Named, Start, Claim, SameExcept, Kept, from_levels}
 use Rattle.rules.specs.Step.{Access, decide, step, access, run}
 use Rattle.rules.proofs.Applied.{length-stays}
 use Rattle.rules.proofs.Isolation.{noninterference}
@@ -29,7 +27,7 @@ use Rattle.words.proofs.Puts.{levelled}
 use Rattle.words.proofs.Typed.{put-size, put_typed, level-typed}
 use Rattle.calls.proofs.Refused.{typed_call}
 use Rattle.calls.specs.Replied.{Replied}
-use Rattle.calls.specs.Isolated.{Accesses, none, next, StartWords, RepliedAlike, WordsClaim, WordsNoninterference}
+use Rattle.calls.specs.Isolated.{Accesses, none, next, WordsClaim, WordsNoninterference}
 
 counters-long : (s : List ℕ) → length s ≡ word_count → length (counters_of s) ≡ 31
 counters-long s h = length-take 31 (drop 0x60 s) ∙ omega (arith, h, length-drop 0x60 s)

@@ -1,10 +1,8 @@
 -- What is kept of a call takes it back, also where it is refused before the record is looked at.
 use Prim.Native.Nat.{ℕ}
-use mathlib.Core.Bool.{Bool, true, false, cond}
 use mathlib.Core.List.{List}
-use mathlib.Core.Path.{◌≡◌, refl, sym, ◌∙◌, ap, subst}
+use mathlib.Core.Path.{◌≡◌, ◌∙◌}
 use Rattle.answer.specs.declared.Answer.{Answer}
-use Rattle.answer.specs.Refused.{is_refused}
 use Rattle.undo_words.specs.Journal.{entries}
 use Rattle.undo_list.specs.Words.{noted}
 use Rattle.undo_list.proofs.Noted.{Stays, listed}

@@ -4,14 +4,14 @@ use mathlib.Core.Bool.{Bool, false, cond}
 use mathlib.Core.List.{List}
 use mathlib.Core.Path.{◌≡◌, refl, sym, ◌∙◌, ap}
 use native.Mathlib.Omega.{arith}
-use lib.ListN.{length, length-take, length-drop, take, drop}
+use lib.ListN.{length, length-take, length-drop, drop}
 use Rattle.answer.specs.declared.Answer.{Answer}
 use Rattle.answer.specs.Refused.{is_refused}
 use Rattle.machine.proofs.Bools.{chosen}
 use Rattle.machine.specs.declared.Machine.{Machine}
 use Rattle.machine.specs.declared.Outcome.{Outcome}
 use Rattle.machine.specs.declared.Values.{Values}
-use Rattle.machine.specs.Machine.{machine_of, with_counters, with_values}
+use Rattle.machine.specs.Machine.{with_counters, with_values}
 use Rattle.rules.specs.declared.Decision.{Decision}
 use Rattle.rules.specs.Apply.{apply}
 use Rattle.rules.proofs.Applied.{rest-stays, length-stays}

@@ -1,5 +1,5 @@
 -- The set and level commands made in words: one law for each way that their tests can go.
-use Prim.Native.Nat.{ℕ, ◌<◌, ◌≤◌, ◌^◌}
+use Prim.Native.Nat.{ℕ, ◌<◌, ◌≤◌}
 use mathlib.Core.Bool.{Bool, true, false, ◌||◌}
 use mathlib.Core.List.{List}
 use mathlib.Core.Path.{◌≡◌, refl, sym, ◌∙◌, ap}
@@ -13,11 +13,11 @@ use Rattle.fields.specs.Largest.{largest, exceeds, largest_level}
 use Rattle.fields.specs.Set.{pmsicr_after, set_level}
 use Rattle.fields.specs.Set as command
 use Rattle.fields.proofs.Below.{below}
-use Rattle.fields.proofs.SetLaws.{event-largest, within-largest, set-stored, level-large, level-put}
+use Rattle.fields.proofs.SetLaws.{event-largest, within-largest, set-stored, level-put}
 use Rattle.machine.specs.declared.Machine.{Machine}
 use Rattle.machine.specs.declared.Outcome.{Outcome}
-use Rattle.machine.specs.Machine.{with_pmsicr, with_level}
-use Rattle.machine.specs.Outcome.{refused, done}
+use Rattle.machine.specs.Machine.{with_pmsicr}
+use Rattle.machine.specs.Outcome.{refused}
 use Rattle.store.specs.Store.{store, store_settings, store_features, store_mdcr2, store_mdcr3, store_pmuacr, store_sampling}
 use Rattle.words.specs.Words.{record_of, level_word, word_count}
 use Rattle.words.proofs.Stored.{Fits, field-set}

@@ -5,15 +5,14 @@ use mathlib.Core.List.{List}
 use mathlib.Core.Path.{◌≡◌, refl, sym, ◌∙◌, ap}
 use native.Mathlib.Omega.{arith}
 use lib.Dec.{eqb}
-use lib.ListN.{length, set, length-set, length-take, length-drop, take, drop}
+use lib.ListN.{length, set, length-set, length-take, length-drop, drop}
 use Rattle.counters.specs.Decremented.{decremented}
-use Rattle.machine.specs.declared.Machine.{Machine}
 use Rattle.machine.specs.declared.Settings.{Settings}
 use Rattle.machine.specs.declared.Values.{Values}
 use Rattle.machine.specs.Machine.{with_level}
 use Rattle.rules.specs.Apply.{map_from}
 use Rattle.rules.proofs.Places.{length-map_from}
-use Rattle.store.specs.Store.{within, store_list}
+use Rattle.store.specs.Store.{within}
 use Rattle.store.specs.Store.{store, store_settings, store_features, store_mdcr2, store_mdcr3, store_pmuacr, store_sampling}
 use Rattle.undo.specs.declared.Change.{Change}
 use Rattle.undo.specs.declared.Undo.{Undo}

@@ -4,8 +4,7 @@ use mathlib.Core.Bool.{Bool, true, false, cond}
 use mathlib.Core.List.{List}
 use mathlib.Core.Path.{◌≡◌, refl, sym, ◌∙◌, ap}
 use native.Mathlib.Omega.{arith}
-use lib.ListN.{length, set, length-take, length-drop, take, drop}
-use Rattle.answer.specs.declared.Answer.{Answer}
+use lib.ListN.{length, set, length-take, length-drop, drop}
 use Rattle.answer.specs.Refused.{is_refused}
 use Rattle.external_apply.specs.declared.Told.{Told}
 use Rattle.external_apply.specs.InParts.{InParts}

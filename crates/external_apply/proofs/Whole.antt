@@ -1,12 +1,11 @@
 -- What a request leaves, put together with what stayed with the caller: the outcome on the whole record.
-use Rattle.std.proofs.Common.{◌≡◌, ℕ, true, false, List, sym, refl, ap, ◌∙◌, true≢false}
+use Rattle.std.proofs.Common.{◌≡◌, ℕ, true, false, sym, refl, ap, ◌∙◌, true≢false}
 use Rattle.answer.specs.declared.Answer.{Answer}
 use Rattle.answer.specs.Refused.{is_refused}
 use Rattle.machine.proofs.Bools.{chosen}
 use Rattle.machine.specs.declared.Machine.{Machine}
 use Rattle.machine.specs.declared.Settings.{Settings}
-use Rattle.machine.specs.declared.Values.{Values}
-use Rattle.machine.specs.Machine.{machine_of, with_values}
+use Rattle.machine.specs.Machine.{machine_of}
 use Rattle.machine.specs.Outcome.{says}
 use Rattle.pmsicr.specs.Pmsicr.{counted}
 use Rattle.rules.specs.declared.external.Effect.{Effect}

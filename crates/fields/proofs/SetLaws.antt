@@ -1,5 +1,5 @@
 -- Laws of the set and level commands: one for each way that the tests can go.
-use Prim.Native.Nat.{ℕ, ◌<◌, ◌≤◌, ◌%◌, ◌-◌}
+use Prim.Native.Nat.{ℕ, ◌<◌, ◌≤◌, ◌%◌}
 use mathlib.Core.Bool.{Bool, true, false, not, ◌&&◌, ◌||◌}
 use mathlib.Core.List.{List}
 use mathlib.Core.Path.{◌≡◌, refl, sym}

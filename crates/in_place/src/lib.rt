@@ -2,6 +2,7 @@
 // which works on a copy of its own during the call. A reference to a struct is proved by hand, so both functions
 // have a walk in proofs/; whoever calls `owned` needs none.
 #![tactic(auto)]
+
 ghost use Rattle.std.specs.Prelude.{◌≡◌};
 ghost use Rattle.rules.specs.Step.{step};
 

@@ -1,16 +1,14 @@
 -- What is kept of an access on words takes it back.
 use Prim.Native.Nat.{ℕ}
-use mathlib.Core.Bool.{Bool, true, false, cond}
 use mathlib.Core.List.{List}
-use mathlib.Core.Path.{◌≡◌, refl, sym, ◌∙◌, ap, subst}
+use mathlib.Core.Path.{◌≡◌, refl, subst}
 use Rattle.answer.specs.declared.Answer.{Answer}
 use Rattle.answer.specs.declared.Refusal.TheVariants.{FieldTooLarge}
 use Rattle.calls.specs.Listed.{Listed}
 use Rattle.calls.proofs.Listed.{listed-call}
 use Rattle.execute.proofs.Taken.{step_stays}
 use Rattle.undo_words.specs.Journal.{entries}
-use Rattle.undo_list.specs.History.{listing, response}
-use Rattle.undo_list.specs.Words.{history_by, response_by, noted}
+use Rattle.undo_list.specs.Words.{noted}
 use Rattle.machine.specs.declared.Machine.{Machine}
 use Rattle.machine.specs.declared.Outcome.{Outcome}
 use Rattle.machine.specs.Outcome.{refused}

@@ -1,6 +1,7 @@
 // The types of the rules on accesses. The rules are definitions, in specs/, and what is proved of them stands in
 // proofs/. The code that runs by them is in the crates above, whose contracts cite these definitions.
 #![tactic(auto)]
+
 pub mod external; // external.rt: what comes from outside, and how far it gets
 
 use answer::{Answer, Cause, Level};

@@ -122,12 +122,12 @@ one i n (Command.Member d) k g l = listing-on i n (member d k.machine) k (member
 one i n (Command.Bad r) k g l = same i n k.machine k refl
 
 -- and those that commands add take them back, one after another
-AllOf :
+all :
     (i n : ℕ) (cs : List Command) (k : History) → forward cs k ≡ true → steps cs k + n + i ≤ capacity
     → back i (steps cs k + n) (perform cs k).left ≡ behind (steps cs k) (back i n k)
 unfolding perform steps forward
-AllOf i n [] k f l = same i n k.machine k refl
-AllOf i n (c ∷ cs) k f l =
+all i n [] k f l = same i n k.machine k refl
+all i n (c ∷ cs) k f l =
     let o = obey c k in
     let j : ℕ = cond (lists c o.answer) 1 0 in
     let s = steps cs o.left in
@@ -135,7 +135,7 @@ AllOf i n (c ∷ cs) k f l =
     let rest = and_right (goes_on c o.answer) (forward cs o.left) f in
     let e : (j + s) + n ≡ s + (j + n) = omega arith in
     ap (λ t. back i t (perform cs o.left).left) e
-    ∙ AllOf i (j + n) cs o.left rest (omega (arith, l))
+    ∙ all i (j + n) cs o.left rest (omega (arith, l))
     ∙ ap (behind s) (one i n c k here (omega (arith, l)))
     ∙ behind-both j s (back i n k)
 
@@ -144,7 +144,7 @@ unfolding perform
 there_and_back cs k f l =
     let n = steps cs k in
     let i = capacity - n in
-    let e = ap (λ j. back i j (perform cs k).left) (sym (add-zero n)) ∙ AllOf i 0 cs k f (omega (arith, l)) in
+    let e = ap (λ j. back i j (perform cs k).left) (sym (add-zero n)) ∙ all i 0 cs k f (omega (arith, l)) in
     record {
       answers = ap (λ (s : Seen). s.answers) e ∙ append-nil (replicate n Answer.Ok);
       machine = ap (λ (s : Seen). s.machine) e;

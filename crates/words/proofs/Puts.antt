@@ -14,7 +14,6 @@ use lib.Seq.{get_or-take, get_or-drop, get_or-append-add, drop_at, drop-append-l
 use Rattle.fields.specs.Largest.{largest}
 use Rattle.machine.proofs.Bools.{or_left, or_right}
 use Rattle.machine.specs.declared.Machine.{Machine}
-use Rattle.machine.specs.declared.Settings.{Settings}
 use Rattle.machine.specs.declared.Values.{Values}
 use Rattle.machine.specs.Machine.{with_counters, with_values, with_level}
 use Rattle.store.specs.Store.{within, store, store_settings, store_features, store_mdcr2, store_mdcr3, store_pmuacr}

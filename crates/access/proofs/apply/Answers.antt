@@ -1,7 +1,6 @@
 -- `access::apply` meets its contract: a case for each decision, by the contracts of what it calls.
 use mathlib.Core.Path.{refl}
 use Rattle.rules.specs.Apply.{apply}
-use borrow.Author.Rules.{rules}
 use Rattle.access.proofs.apply.Goals as goal
 
 pub returns-in-Says : goal.returns-in-Says

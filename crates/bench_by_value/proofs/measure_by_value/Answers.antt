@@ -1,7 +1,7 @@
 -- `measure_by_value` meets its contract: what the entries passed summed, and what those left will add, is the whole.
-use Rattle.std.proofs.Common.{◌≡◌, ℕ, ◌+◌, ◌-◌, ◌%◌, ◌^◌, ◌<◌, ◌≤◌, length, sym, ap, ◌∙◌, arith, rules}
-use Rattle.bench_by_value.specs.Measure.{started, total}
-use Rattle.bench_by_value.proofs.Total.{summed, summed-all, summed-next, summed-done}
+use Rattle.std.proofs.Common.{ℕ, ◌+◌, ◌%◌, ◌^◌, sym, ap, ◌∙◌, arith}
+use Rattle.bench_by_value.specs.Measure.{total}
+use Rattle.bench_by_value.proofs.Total.{summed-all, summed-next, summed-done}
 use Rattle.bench_by_value.proofs.measure_by_value.Goals as goal
 
 pub loop-i-init : goal.loop-i-init

@@ -1,6 +1,6 @@
-use Rattle.std.proofs.Common.{◌≡◌, ℕ, ◌+◌, ◌-◌, ◌%◌, ◌^◌, ◌<◌, ◌≤◌, length, sym, ap, ◌∙◌, arith, rules}
+use Rattle.std.proofs.Common.{◌≡◌, ◌-◌, ◌^◌, ◌<◌, ◌≤◌, length}
 use Rattle.bench_by_value.specs.Measure.{started, total}
-use Rattle.bench_by_value.proofs.Total.{summed, summed-all, summed-next, summed-done}
+use Rattle.bench_by_value.proofs.Total.{summed}
 use Rattle.bench_by_value.proofs.measure_by_value.Given as goal
 
 abbrev pub invariant-loop-i : goal.invariant-loop-i

@@ -1,7 +1,5 @@
 -- `start` meets its contract: what the sets passed made of the record, and what those left will make of it, is the whole.
-use Rattle.std.proofs.Common.{◌≡◌, ◌-◌, ◌≤◌, map, length, drop, sym, ap, ◌∙◌, arith, rules}
-use Rattle.fields.specs.Set.{set_all}
-use Rattle.bench_by_value.specs.Measure.{set_of, started}
+use Rattle.std.proofs.Common.{sym, ◌∙◌, arith}
 use Rattle.bench_by_value.proofs.Total.{sets-next, sets-done}
 use Rattle.bench_by_value.proofs.start.Goals as goal
 

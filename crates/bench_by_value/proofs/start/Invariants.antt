@@ -1,7 +1,6 @@
-use Rattle.std.proofs.Common.{◌≡◌, ◌-◌, ◌≤◌, map, length, drop, sym, ap, ◌∙◌, arith, rules}
+use Rattle.std.proofs.Common.{◌≡◌, ◌-◌, ◌≤◌, map, length, drop}
 use Rattle.fields.specs.Set.{set_all}
 use Rattle.bench_by_value.specs.Measure.{set_of, started}
-use Rattle.bench_by_value.proofs.Total.{sets-next, sets-done}
 use Rattle.bench_by_value.proofs.start.Given as goal
 
 abbrev pub invariant-loop-i : goal.invariant-loop-i

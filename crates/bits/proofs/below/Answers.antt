@@ -1,11 +1,7 @@
 -- `bits::below` meets its contract: from bit 64 on nothing is cut off.
-use Prim.Native.Nat.{◌%◌}
-use mathlib.Core.Path.{sym, ap}
+use mathlib.Core.Path.{sym}
 use native.Mathlib.Nat.{mod-eq_of_lt, lt_of_lt_of_le}
-use native.Mathlib.Omega.{arith}
-use borrow.Author.Rules.{rules}
-use lib.Pow.{pow_pos, pow_mono}
-use Rattle.bits.proofs.Single.{one_shifted}
+use lib.Pow.{pow_mono}
 use Rattle.bits.proofs.below.Goals as goal
 
 pub returns-then-n-ge64 : goal.returns-then-n-ge64

@@ -1,6 +1,5 @@
 -- `bits::bit` meets its contract: past bit 63 a number of 64 bits has none.
 use mathlib.Core.Path.{sym}
-use borrow.Author.Rules.{rules}
 use Rattle.bits.proofs.Single.{bit_past}
 use Rattle.bits.proofs.bit.Goals as goal
 

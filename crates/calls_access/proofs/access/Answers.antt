@@ -1,6 +1,5 @@
 -- `calls_access::access` meets its contract: the decision on the view of the record that the words hold, applied.
-use mathlib.Core.Path.{◌≡◌, refl, sym, ◌∙◌, ap, subst}
-use borrow.Author.Rules.{rules}
+use mathlib.Core.Path.{◌∙◌, ap, subst}
 use Rattle.rules.specs.declared.Decision.{Decision}
 use Rattle.rules.specs.Apply.{apply}
 use Rattle.rules.specs.Step.{step, decide}

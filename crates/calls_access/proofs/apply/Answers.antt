@@ -1,7 +1,6 @@
 -- `calls_access::apply` meets its contract: a case for each decision, by the contracts of what it calls.
 use Prim.Native.Nat.{ℕ}
 use mathlib.Core.Path.{refl, ap}
-use borrow.Author.Rules.{rules}
 use Rattle.answer.specs.declared.Answer.{Answer}
 use Rattle.rules.specs.declared.Decision.TheVariants.{Write, Add}
 use Rattle.rules.specs.Apply.{apply}

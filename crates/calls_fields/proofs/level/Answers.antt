@@ -1,5 +1,5 @@
 -- `level` meets its contract: refused, or the level's word takes it.
-use mathlib.Core.Path.{◌≡◌, sym, subst}
+use mathlib.Core.Path.{sym, subst}
 use native.Mathlib.Omega.{arith}
 use Rattle.answer.specs.declared.Answer.{Answer}
 use Rattle.fields.specs.Set.{set_level}

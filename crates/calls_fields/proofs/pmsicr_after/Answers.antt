@@ -1,5 +1,4 @@
 -- `pmsicr_after` meets its contract: as profiling begins, or what is stored.
-use borrow.Author.Rules.{rules}
 use Rattle.store.specs.Store.{store}
 use Rattle.words.specs.Words.{settings_of, record_of}
 use Rattle.calls_fields.proofs.pmsicr_after.Goals as goal

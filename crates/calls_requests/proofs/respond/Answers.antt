@@ -1,7 +1,5 @@
 -- `calls_requests::respond` meets its contract: the request to the record that the words hold, and what it leaves stored.
-use mathlib.Core.List.{List}
-use mathlib.Core.Path.{◌≡◌, sym, ◌∙◌, subst}
-use borrow.Author.Rules.{rules}
+use mathlib.Core.Path.{subst}
 use native.Mathlib.Omega.{arith}
 use Rattle.external_apply.specs.InParts.{InParts}
 use Rattle.machine.specs.declared.Settings.{Settings}

@@ -1,6 +1,5 @@
 -- `counters::decrement` meets its contract: its loop keeps the invariant, which at the end says the definition.
-use Rattle.std.proofs.Common.{◌≡◌, ◌-◌, ◌/◌, ◌^◌, ◌≤◌, length, sym, refl, ◌∙◌, arith, length-set}
-use Rattle.rules.proofs.Sweep.{sweep}
+use Rattle.std.proofs.Common.{◌≤◌, length, sym, refl, ◌∙◌, arith, length-set}
 use Rattle.rules.specs.Overflow.{width}
 use Rattle.counters.specs.Decremented.{minus_one, decremented}
 use Rattle.counters.proofs.Turns.{half, turn, done-early, done_all}

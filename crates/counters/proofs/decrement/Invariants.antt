@@ -1,8 +1,6 @@
-use Rattle.std.proofs.Common.{◌≡◌, ◌-◌, ◌/◌, ◌^◌, ◌≤◌, length, sym, refl, ◌∙◌, arith, length-set}
+use Rattle.std.proofs.Common.{◌≡◌, ◌-◌, ◌/◌, ◌^◌, ◌≤◌, length}
 use Rattle.rules.proofs.Sweep.{sweep}
-use Rattle.rules.specs.Overflow.{width}
-use Rattle.counters.specs.Decremented.{minus_one, decremented}
-use Rattle.counters.proofs.Turns.{half, turn, done-early, done_all}
+use Rattle.counters.specs.Decremented.{decremented}
 use Rattle.counters.proofs.decrement.Given as goal
 
 abbrev pub invariant-loop-i : goal.invariant-loop-i

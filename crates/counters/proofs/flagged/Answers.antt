@@ -2,9 +2,7 @@
 -- overflow.
 use Rattle.std.proofs.Common.{◌&&◌, eqb, ltb, sym, ap, ◌∙◌}
 use mathlib.Core.Bool.{and-false}
-use Rattle.machine.proofs.Bools.{and_left}
 use Rattle.rules.specs.Ranges.{long_bit}
-use Rattle.rules.specs.Overflow.{width, carries, overflow_width, raised}
 use Rattle.rules.proofs.Flags.{raised-none}
 use Rattle.counters.proofs.FlagTurns.{no_overflow}
 use Rattle.counters.proofs.flagged.Goals as goal

@@ -1,10 +1,10 @@
 -- `counters::increment` meets its contract: its loop keeps the invariant, which at the end says the definition.
-use Rattle.std.proofs.Common.{◌≡◌, ◌-◌, ◌/◌, ◌^◌, ◌≤◌, length, get_or, sym, refl, ap, ◌∙◌, arith, length-set}
+use Rattle.std.proofs.Common.{◌≤◌, length, get_or, sym, refl, ap, ◌∙◌, arith, length-set}
 use Rattle.rules.specs.Apply.{incremented}
 use Rattle.rules.specs.Overflow.{width, plus_one}
-use Rattle.rules.proofs.Sweep.{sweep, ahead}
+use Rattle.rules.proofs.Sweep.{ahead}
 use Rattle.counters.proofs.Turns.{half, turn, done-early, done_all}
-use Rattle.counters.proofs.FlagTurns.{flagged, flags-start, flag-turn, flags-early, flags-all}
+use Rattle.counters.proofs.FlagTurns.{flags-start, flag-turn, flags-early, flags-all}
 use Rattle.counters.proofs.increment.Goals as goal
 
 pub loop-i-init : goal.loop-i-init

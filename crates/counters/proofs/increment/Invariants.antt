@@ -1,9 +1,7 @@
-use Rattle.std.proofs.Common.{◌≡◌, ◌-◌, ◌/◌, ◌^◌, ◌≤◌, length, get_or, sym, refl, ap, ◌∙◌, arith, length-set}
+use Rattle.std.proofs.Common.{◌≡◌, ◌-◌, ◌/◌, ◌^◌, ◌≤◌, length}
 use Rattle.rules.specs.Apply.{incremented}
-use Rattle.rules.specs.Overflow.{width, plus_one}
-use Rattle.rules.proofs.Sweep.{sweep, ahead}
-use Rattle.counters.proofs.Turns.{half, turn, done-early, done_all}
-use Rattle.counters.proofs.FlagTurns.{flagged, flags-start, flag-turn, flags-early, flags-all}
+use Rattle.rules.proofs.Sweep.{sweep}
+use Rattle.counters.proofs.FlagTurns.{flagged}
 use Rattle.counters.proofs.increment.Given as goal
 
 abbrev pub invariant-loop-i : goal.invariant-loop-i

@@ -1,6 +1,5 @@
 -- `decide::decide_register` meets its contract: undefined at once, or a case for each stop of the order of traps.
 use mathlib.Core.Path.{sym, ◌∙◌, refl}
-use borrow.Author.Rules.{rules}
 use Rattle.rules.proofs.Decided.{at_once, in_order}
 use Rattle.decide.proofs.decide_register.Goals as goal
 

@@ -1,5 +1,4 @@
 -- `decide::stop_of` meets its contract: a case for each register, by the contract of its order.
-use borrow.Author.Rules.{rules}
 use Rattle.rules.specs.Traps.{rules_of, stop_of}
 use Rattle.decide.proofs.stop_of.Goals as goal
 

@@ -1,5 +1,5 @@
 -- `external_apply::enact` meets its contract: a case for each effect.
-use Rattle.std.proofs.Common.{refl, rules}
+use Rattle.std.proofs.Common.{refl}
 use Rattle.store.specs.Store.{store, store_settings}
 use Rattle.external_apply.proofs.enact.Goals as goal
 

@@ -1,6 +1,5 @@
 -- `external_decide::effect_of` meets its contract: a case for each request.
 use Rattle.rules.specs.External.{effect_of}
-use borrow.Author.Rules.{rules}
 use Rattle.external_decide.proofs.effect_of.Goals as goal
 
 pub returns-in-Read : goal.returns-in-Read

@@ -1,6 +1,5 @@
 -- `pmsicr::implemented` meets its contract: with ERnd and without it.
 use native.Mathlib.Omega.{arith}
-use borrow.Author.Rules.{rules}
 use Rattle.pmsicr.specs.Pmsicr.{implemented}
 use Rattle.pmsicr.proofs.implemented.Goals as goal
 

@@ -1,5 +1,4 @@
 -- `pmsicr::primary_counts` meets its contract: the counter is 0, above 1, or 1, and then there is a draw or not.
-use borrow.Author.Rules.{rules}
 use Rattle.pmsicr.proofs.Laws.{primary-idle, primary-lower, primary-draws, primary-selects}
 use Rattle.pmsicr.proofs.primary_counts.Goals as goal
 

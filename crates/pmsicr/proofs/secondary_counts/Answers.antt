@@ -1,6 +1,5 @@
 -- `pmsicr::secondary_counts` meets its contract: the counter is 0, or it is not.
 use mathlib.Core.Path.{sym, ◌∙◌}
-use borrow.Author.Rules.{rules}
 use Rattle.pmsicr.proofs.Laws.{secondary-idle, secondary-lower}
 use Rattle.pmsicr.proofs.secondary_counts.Goals as goal
 

@@ -1,6 +1,5 @@
 -- `pmsicr::with_primary` meets its contract, by computation.
 use mathlib.Core.Path.{refl}
-use borrow.Author.Rules.{rules}
 use Rattle.pmsicr.specs.Pmsicr.{with_primary}
 use Rattle.pmsicr.proofs.with_primary.Goals as goal
 

@@ -1,6 +1,5 @@
 -- `pmsicr::with_secondary` meets its contract, by computation.
 use mathlib.Core.Path.{refl}
-use borrow.Author.Rules.{rules}
 use Rattle.pmsicr.specs.Pmsicr.{with_secondary}
 use Rattle.pmsicr.proofs.with_secondary.Goals as goal
 

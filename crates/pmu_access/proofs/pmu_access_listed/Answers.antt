@@ -1,13 +1,10 @@
 -- `pmu_access_listed` meets its contract: `pmu_access`, and what is kept of it is listed.
 use mathlib.Core.Path.{sym, ◌∙◌}
-use borrow.Author.Rules.{rules}
 use Rattle.rules.specs.Step.{step}
-use Rattle.undo.specs.Undo.{change_by, Typed}
 use Rattle.words.specs.Words.{record_of}
-use Rattle.words.specs.Put.{put}
 use Rattle.words.specs.Call.{call_of}
-use Rattle.calls.proofs.Refused.{refused-call, untyped-call, typed_call, called-reply}
-use Rattle.pmu_access.proofs.Kept.{refused-listed, access-listed}
+use Rattle.calls.proofs.Refused.{typed_call, called-reply}
+use Rattle.pmu_access.proofs.Kept.{access-listed}
 use Rattle.pmu_access.proofs.pmu_access_listed.Goals as goal
 
 pub returns : goal.returns

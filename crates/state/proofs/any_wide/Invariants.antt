@@ -1,11 +1,8 @@
 use Prim.Native.Nat.{◌≤◌, ◌-◌}
 use mathlib.Core.Bool.{◌||◌}
-use mathlib.Core.Path.{◌≡◌, refl, sym, ◌∙◌}
-use borrow.Author.Rules.{rules}
-use native.Mathlib.Omega.{arith}
+use mathlib.Core.Path.{◌≡◌}
 use lib.ListN.{drop, length}
 use Rattle.state.specs.State.{any_wide}
-use Rattle.state.proofs.Wide.{wide-next, wide-done}
 use Rattle.state.proofs.any_wide.Given as goal
 
 abbrev pub invariant-loop-i : goal.invariant-loop-i

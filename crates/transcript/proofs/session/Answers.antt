@@ -1,7 +1,6 @@
 -- `transcript::session` meets its contract: a case for each branch, by the contracts of what it calls.
 use native.Mathlib.Omega.{arith}
 use Rattle.transcript.proofs.Whole.{too_short, enough, output-long, output-run}
-use borrow.Author.Rules.{rules}
 use Rattle.transcript.proofs.session.Goals as goal
 
 pub returns-then-out-lt-ROOM : goal.returns-then-out-lt-ROOM

@@ -1,5 +1,4 @@
 -- `undo_list::back` meets its contract: nothing is listed, or the latest entry is taken back.
-use borrow.Author.Rules.{rules}
 use Rattle.undo_list.proofs.Noted.{nothing-back, latest-back}
 use Rattle.undo_list.proofs.back.Goals as goal
 

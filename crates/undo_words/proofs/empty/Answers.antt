@@ -1,5 +1,4 @@
 -- `undo_words::empty` meets its contract: of 0 entries the list is empty.
-use borrow.Author.Rules.{rules}
 use Rattle.undo_words.specs.Journal.{backwards}
 use Rattle.undo_words.proofs.empty.Goals as goal
 

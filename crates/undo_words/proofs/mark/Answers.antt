@@ -1,5 +1,4 @@
 -- `undo_words::mark` meets its contract: no entry has the first two words.
-use borrow.Author.Rules.{rules}
 use Rattle.undo_words.proofs.Words.{marked}
 use Rattle.undo_words.proofs.mark.Goals as goal
 

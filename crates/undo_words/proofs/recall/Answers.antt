@@ -1,5 +1,4 @@
 -- `undo_words::recall` meets its contract: with none listed the list stays, and else the latest stands before the next place.
-use borrow.Author.Rules.{rules}
 use Prim.Native.Nat.{◌+◌, ◌-◌, ◌%◌, ◌<◌, min}
 use mathlib.Core.Path.{◌≡◌, sym, ◌∙◌, ap, ap₂}
 use native.Mathlib.Omega.{arith}

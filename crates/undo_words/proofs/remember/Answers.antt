@@ -1,5 +1,4 @@
 -- `undo_words::remember` meets its contract: the entry is put where the next is to stand, and listed from the place after it.
-use borrow.Author.Rules.{rules}
 use Prim.Native.Nat.{◌+◌, ◌%◌, ◌<◌, min}
 use mathlib.Core.List.{◌∷◌}
 use mathlib.Core.Path.{◌≡◌, ◌∙◌, ap, ap₂}

@@ -1,6 +1,5 @@
 -- `register` meets its contract: the code at the place of the word stands for its register; without a place it names none.
 use mathlib.Core.Path.{sym, ◌∙◌}
-use borrow.Author.Rules.{rules}
 use Rattle.word.proofs.Found.{found, missed}
 use Rattle.word.proofs.register.Goals as goal
 

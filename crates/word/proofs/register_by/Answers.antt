@@ -1,7 +1,6 @@
 -- `register_by` meets its contract, as `register` does: what stands at a place of the table is the code of the place.
 use mathlib.Core.Path.{sym, ◌∙◌}
 use native.Mathlib.Omega.{arith}
-use borrow.Author.Rules.{rules}
 use Rattle.word.specs.Codes.{place_of, code_at, codes}
 use Rattle.word.proofs.Tabulate.{at}
 use Rattle.word.proofs.Found.{found, missed}

@@ -1,14 +1,11 @@
 -- `undone` meets its contract: each part of what was kept is put back where it stands in the words.
 use Prim.Native.Nat.{ℕ}
 use mathlib.Core.List.{List}
-use mathlib.Core.Path.{◌≡◌, sym, ◌∙◌, ap}
-use borrow.Author.Rules.{rules}
-use native.Mathlib.Omega.{arith}
-use lib.ListN.{set, length-set}
-use Rattle.machine.specs.declared.Values.{Values}
+use mathlib.Core.Path.{◌∙◌, ap}
+use lib.ListN.{set}
 use Rattle.store.specs.Store.{store_values}
-use Rattle.words.specs.Words.{word, values_of, settings_of, record_of, level_word}
-use Rattle.words.specs.Put.{put_values, put_counters}
+use Rattle.words.specs.Words.{settings_of, record_of, level_word}
+use Rattle.words.specs.Put.{put_values}
 use Rattle.calls_fields.proofs.Taken.{put_back}
 use Rattle.calls_fields.proofs.back.undone.Goals as goal
 

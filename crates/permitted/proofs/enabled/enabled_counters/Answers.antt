@@ -1,8 +1,5 @@
 -- `permitted::enabled::enabled_counters` meets its contract: its steps are those of `enabled-steps`, whose sum has 31 bits.
-use native.Mathlib.Omega.{arith}
-use Rattle.bits.proofs.FromBits.{from_bits-lt}
-use Rattle.rules.specs.Ranges.{counter_enabled}
-use Rattle.rules.proofs.Mask.{first-within, enabled-steps}
+use Rattle.rules.proofs.Mask.{enabled-steps}
 use Rattle.permitted.proofs.enabled.enabled_counters.Goals as goal
 
 pub returns : goal.returns

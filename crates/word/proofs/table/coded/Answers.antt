@@ -1,5 +1,4 @@
 -- `table::coded` meets its contract: each test is that of the definition.
-use borrow.Author.Rules.{rules}
 use borrow.Author.Tests.{eq-eqb, ne_eqb, le-leb, lt-leb}
 use Rattle.word.specs.Codes.{coded}
 use Rattle.word.proofs.table.coded.Goals as goal

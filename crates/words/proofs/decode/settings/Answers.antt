@@ -1,5 +1,4 @@
 -- `settings` meets its contract: the groups, each as its own function has it.
-use borrow.Author.Rules.{rules}
 use Rattle.words.specs.Words.{settings_of}
 use Rattle.words.proofs.decode.settings.Goals as goal
 

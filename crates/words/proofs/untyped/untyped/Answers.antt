@@ -1,5 +1,4 @@
 -- `untyped` meets its contract: the words of a kind, united in parts, are those of the definition.
-use borrow.Author.Rules.{rules}
 use Rattle.words.proofs.United.{in_parts}
 use Rattle.words.proofs.untyped.untyped.Goals as goal
 
