@@ -5,8 +5,8 @@ BEGIN {
     MARGIN = 20
     BOX = WIDE - 2 * MARGIN
     CRATE = MARGIN + 42
-    FUNCTION = MARGIN + 150
-    DEFINITION = MARGIN + 350
+    FUNCTION = MARGIN + 185
+    DEFINITION = MARGIN + 380
     MONOSPACED = " font-family=\"" MONO "\""
     WAY = "From a session's bytes to a line"
 }
