@@ -1,7 +1,7 @@
 #!/usr/bin/env python3
 """Respells this repository's own definitions and lemmas for today's Rattle: words in snake case, facts in upper camel case.
 
-usage: python3 tools/port/respell.py      at the top, once, after /opt/rattle/port/port.py
+usage: python3 tools/port/respell.py      at the top, once, after the kit's port/port.py
 
 It reads the names that specs/ and proofs/ define at the top of a file or of a module in it. A name that begins in lower case and
 has capitals becomes snake case, part by part where a dash joins parts; all others stay. It turns each in every .antt and .rt
