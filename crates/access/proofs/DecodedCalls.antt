@@ -1,6 +1,6 @@
 -- Noninterference of `access::in_parts_decoded`, which a session runs, as specs/Calls.antt states it, by the induction in
 -- Calls.antt. All that is known of a call is its contract, as the check takes it from the source. The instruction that is
--- passed is the word taken apart, which is what the contracts of `word::decode_by` and `word::decode` give.
+-- passed is the word taken apart, which is what the contract of `word::decode` gives.
 use mathlib.Core.Logic.{∥∥₁_map}
 use mathlib.Core.Path.{refl}
 use borrow.Fn.World.{World}

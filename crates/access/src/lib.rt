@@ -23,44 +23,47 @@ pub struct Said {
 }
 
 // What was decided, done to the counters that are lent. The level plays no part.
+#[tactic(auto, unfolding(rules::specs::Apply::apply))]
 fn apply(d: Decision, counters: &mut [u64], events: &[u16], s: Settings, v: Values) -> Said
     ensures { Applied d s events.now counters.old v result counters.new }
 {
+    let unchanged = Said {
+        answer: Answer::Ok,
+        values: v,
+        change: undo::UNCHANGED,
+    };
     match d {
-        Decision::Says(a) => Said {
-            answer: a,
-            values: v,
-            change: undo::UNCHANGED,
+        Decision::Says(answer) => Said {
+            answer,
+            ..unchanged
         },
         Decision::Read { place, rt } => Said {
             answer: Answer::Mrs {
                 value: places::shown(counters, s, v, place),
-                rt: rt,
+                rt,
             },
-            values: v,
-            change: undo::UNCHANGED,
+            ..unchanged
         },
-        Decision::Write { place, value } => {
-            let change = undo::of_place(counters, v, place);
-            Said {
-                answer: Answer::Ok,
-                values: places::put(counters, s, v, place, value),
-                change: change,
-            }
-        }
-        Decision::Add { mask } => {
-            let mut values = v;
-            values.ovs = counters::increment(counters, events, s, mask, v.ovs);
-            Said {
-                answer: Answer::Ok,
-                values: values,
-                change: undo::of_increments(mask),
-            }
-        }
+        Decision::Write { place, value } => Said {
+            change: undo::of_place(counters, v, place),
+            values: places::put(counters, s, v, place, value),
+            ..unchanged
+        },
+        Decision::Add { mask } => Said {
+            values: Values {
+                ovs: counters::increment(counters, events, s, mask, v.ovs),
+                ..v
+            },
+            change: undo::of_increments(mask),
+            ..unchanged
+        },
     }
 }
 
-// The access with instruction i, a word taken apart, and operand x to the record with these parts, its counters lent.
+// The access with instruction i, a word taken apart, and operand x to the record with these parts, its counters lent. The parts
+// are parameters of their own, and not one struct: MODEL X4 lends the counters alone, and the theorems on calls (MODEL M10,
+// `calls-noninterference` of proofs/DecodedCalls.antt and proofs/PartsCalls.antt) are of calls with just these arguments.
+#[tactic(auto, unfolding(state::specs::State::view_of))]
 pub fn in_parts_decoded(
     counters: &mut [u64; 31],
     events: &[u16; 31],
@@ -81,6 +84,7 @@ pub fn in_parts_decoded(
 }
 
 // The access with word w and operand x to the record with these parts, its counters lent.
+#[tactic(auto, unfolding(state::specs::State::view_of, rules::specs::Step::step))]
 pub fn in_parts(
     counters: &mut [u64; 31],
     events: &[u16; 31],
@@ -104,16 +108,20 @@ pub fn in_parts(
 pub fn step(w: u32, x: u64, mut r: Machine) -> Outcome
     ensures { result ≡ step w x r }
 {
+    // the proof's borrow checker doesn't cover two fields of one record lent at once, so a copy of the event numbers is lent
     let events = r.events;
-    let settings = r.settings;
-    let level = r.level;
-    let values = r.values;
-    let said = in_parts(&mut r.counters, &events, settings, level, values, w, x);
-    let answer = said.answer;
-    let after = said.values;
-    r.values = after;
+    let said = in_parts(
+        &mut r.counters,
+        &events,
+        r.settings,
+        r.level,
+        r.values,
+        w,
+        x,
+    );
+    r.values = said.values;
     Outcome {
-        answer: answer,
+        answer: said.answer,
         machine: r,
     }
 }

@@ -6,50 +6,49 @@ ghost use Rattle.std.specs.Prelude.{◌≡◌};
 ghost use Rattle.answer.specs.Numbers.{refusal_number, level_number, cause_number};
 ghost use Rattle.answer.specs.Refused.{is_refused};
 
-// Why an input or a record is refused (MODEL R). specs/Numbers.antt has the number of each.
+// Why an input or a record is refused (MODEL R), with the number of each (MODEL R0).
 #[derive(Clone, Copy)]
 pub enum Refusal {
-    UnknownCommand,
-    Truncated,
-    UnknownField,
-    ValueTooLarge,
-    LevelTooLarge,
-    SessionTooLong,
-    FieldTooLarge,
-    LevelUnavailable,
-    El2Unimplemented,
-    HpmnAboveN,
-    HpmnZero,
-    CounterTooWide,
-    TgeAtEl1,
-    FeatureMissing,
-    NothingToUndo,
-    SetTooWide,
-    LongFormTooLong,
+    UnknownCommand = 1,
+    Truncated = 2,
+    UnknownField = 3,
+    ValueTooLarge = 4,
+    LevelTooLarge = 5,
+    SessionTooLong = 6,
+    FieldTooLarge = 10,
+    LevelUnavailable = 11,
+    El2Unimplemented = 12,
+    HpmnAboveN = 13,
+    HpmnZero = 14,
+    CounterTooWide = 15,
+    TgeAtEl1 = 16,
+    FeatureMissing = 17,
+    NothingToUndo = 18,
+    SetTooWide = 19,
+    LongFormTooLong = 20,
 }
 
-// The exception level that takes a trap.
+// The exception level that takes a trap, as a number (MODEL L4).
 #[derive(Clone, Copy)]
 pub enum Level {
-    El1,
-    El2,
-    El3,
+    El1 = 1,
+    El2 = 2,
+    El3 = 3,
 }
 
 // The control behind a trap (MODEL D): PMUSERENR_EL0, the fine-grained bit of the register and the direction, MDCR_EL2.TPM,
-// MDCR_EL2.HPMN, MDCR_EL3.TPM, MDCR_EL3.EnPM2, SCR_EL3.FGTEn2, MDCR_EL2.TPMS or MDCR_EL3.NSPB. specs/Numbers.antt has the number
-// of each.
+// MDCR_EL2.HPMN, MDCR_EL3.TPM, MDCR_EL3.EnPM2, SCR_EL3.FGTEn2, MDCR_EL2.TPMS or MDCR_EL3.NSPB. Each has its number (MODEL D0).
 #[derive(Clone, Copy)]
 pub enum Cause {
-    Pmuserenr,
-    FineGrained,
-    Mdcr2Tpm,
-    Hpmn,
-    Mdcr3Tpm,
-    EnPm2,
-    FgtEn2,
-    Tpms,
-    Nspb,
+    Pmuserenr = 1,
+    FineGrained = 2,
+    Mdcr2Tpm = 3,
+    Hpmn = 4,
+    Mdcr3Tpm = 5,
+    EnPm2 = 6,
+    FgtEn2 = 7,
+    Tpms = 8,
+    Nspb = 9,
 }
 
 // Where an access is trapped to, by which control, and the 32 bits of its syndrome.
@@ -76,73 +75,38 @@ pub enum Answer {
     Refused(Refusal),
 }
 
-// MODEL R0: the number of a refusal.
-pub fn refusal_number(r: Refusal) -> u8
-    ensures { result ≡ refusal_number r }
-{
-    match r {
-        Refusal::UnknownCommand => 1,
-        Refusal::Truncated => 2,
-        Refusal::UnknownField => 3,
-        Refusal::ValueTooLarge => 4,
-        Refusal::LevelTooLarge => 5,
-        Refusal::SessionTooLong => 6,
-        Refusal::FieldTooLarge => 10,
-        Refusal::LevelUnavailable => 11,
-        Refusal::El2Unimplemented => 12,
-        Refusal::HpmnAboveN => 13,
-        Refusal::HpmnZero => 14,
-        Refusal::CounterTooWide => 15,
-        Refusal::TgeAtEl1 => 16,
-        Refusal::FeatureMissing => 17,
-        Refusal::NothingToUndo => 18,
-        Refusal::SetTooWide => 19,
-        Refusal::LongFormTooLong => 20,
+// MODEL R0: the number of a refusal, that of the table in specs/Numbers.antt.
+impl From<Refusal> for u8 {
+    ghost from_gives = { λ r n. n ≡ refusal_number r };
+
+    fn from(r: Refusal) -> u8 {
+        r as u8
     }
 }
 
-// The level as a number.
-pub fn level_number(l: Level) -> u8
-    ensures { result ≡ level_number l }
-{
-    match l {
-        Level::El1 => 1,
-        Level::El2 => 2,
-        Level::El3 => 3,
+// MODEL L4: the level as a number.
+impl From<Level> for u8 {
+    ghost from_gives = { λ l n. n ≡ level_number l };
+
+    fn from(l: Level) -> u8 {
+        l as u8
     }
 }
 
 // MODEL D0: the number of a cause.
-pub fn cause_number(c: Cause) -> u8
-    ensures { result ≡ cause_number c }
-{
-    match c {
-        Cause::Pmuserenr => 1,
-        Cause::FineGrained => 2,
-        Cause::Mdcr2Tpm => 3,
-        Cause::Hpmn => 4,
-        Cause::Mdcr3Tpm => 5,
-        Cause::EnPm2 => 6,
-        Cause::FgtEn2 => 7,
-        Cause::Tpms => 8,
-        Cause::Nspb => 9,
+impl From<Cause> for u8 {
+    ghost from_gives = { λ c n. n ≡ cause_number c };
+
+    fn from(c: Cause) -> u8 {
+        c as u8
     }
 }
 
-// The command was refused.
-pub fn is_refused(a: Answer) -> bool
-    ensures { result ≡ is_refused a }
-{
-    match a {
-        Answer::Ok => false,
-        Answer::Sampled => false,
-        Answer::End => false,
-        Answer::Undef => false,
-        Answer::Other => false,
-        Answer::Error => false,
-        Answer::Trap(_) => false,
-        Answer::Value(_) => false,
-        Answer::Mrs { value: _, rt: _ } => false,
-        Answer::Refused(_) => true,
+impl Answer {
+    // The command was refused.
+    pub fn is_refused(self) -> bool
+        ensures { result ≡ is_refused self }
+    {
+        matches!(self, Answer::Refused(_))
     }
 }

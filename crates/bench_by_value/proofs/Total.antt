@@ -1,5 +1,6 @@
 -- Laws of the measured loops along a list: one entry taken off the front, and none left.
-use Rattle.std.proofs.Common.{◌≡◌, ℕ, ◌+◌, ◌%◌, ◌^◌, ◌<◌, ◌≤◌, List, map, length, get_or, drop, sym, zero-add, add-one, arith, drop_of_length-le, drop-cons}
+use Rattle.std.proofs.Common.{◌≡◌, ℕ, ◌+◌, ◌%◌, ◌^◌, ◌<◌, ◌≤◌, List, map, length, get_or, drop, sym, zero-add, add-one, arith}
+use Rattle.std.proofs.Common.{drop_of_length-le, drop-cons}
 use Rattle.machine.specs.declared.Machine.{Machine}
 use Rattle.machine.specs.declared.Outcome.{Outcome}
 use Rattle.machine.specs.Machine.{with_level}

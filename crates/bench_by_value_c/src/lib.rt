@@ -1,4 +1,4 @@
-// The loop of `bench_by_value` as the export of a static library, for bench/: that crate itself is a library, for the other loops.
+// The loop of `bench_by_value` as the export of a static library, for bench/: that crate is a library, for the other loops.
 #![tactic(auto)]
 
 ghost use Rattle.std.specs.Prelude.{◌≡◌};

@@ -20,18 +20,15 @@ fn worth(r: Register) -> u64
 }
 
 // The sum of a list's registers.
+#[tactic(auto, unfolding(crate::specs::Measure::total))]
 #[unsafe(no_mangle)]
 pub extern "C" fn measure_register(list: &[u64]) -> u64
     ensures { result ≡ total list.now }
 {
-    let registers = word::table::registers();
     let mut sum: u64 = 0;
-    let mut i = 0;
-    while i < list.len() {
-        let instruction = word::decode_by(&registers, (list[i] % 0x100000000) as u32);
-        let r = instruction.register;
-        sum = std::num::wrapping_add_u64(sum, worth(r));
-        i += 1;
+    for &c in list {
+        let r = word::decode((c % 0x100000000) as u32).register;
+        sum = sum.wrapping_add(worth(r));
     }
     sum
 }

@@ -1,5 +1,5 @@
--- Laws of `from_bits`, over the number of bits: its bits are the ones given, a number is made of its own bits, and equal bits make
--- equal numbers.
+-- Laws of `from_bits`, over the number of bits: its bits are the ones given, a number is made of its own bits, and equal bits
+-- make equal numbers.
 use Prim.Native.Nat.{ℕ, zero, suc, ◌+◌, ◌*◌, ◌/◌, ◌%◌, ◌^◌, ◌<◌}
 use mathlib.Core.Bool.{Bool, true, false, cond, not, ◌&&◌}
 use mathlib.Core.Path.{◌≡◌, refl, sym, ◌∙◌, ap, ap₂}

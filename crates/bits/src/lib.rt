@@ -1,4 +1,4 @@
-// Bits of numbers: one bit, and the lowest ones; and a choice between two numbers or two bools.
+// Bits of numbers: one bit, and the lowest ones; and a choice by a test.
 #![tactic(auto)]
 
 ghost use Rattle.std.specs.Prelude.{cond, ◌≡◌, ◌%◌, ◌^◌};
@@ -35,15 +35,8 @@ pub fn below_where(test: bool, n: u64, x: u64) -> u64
 }
 
 // a where the test holds, else b.
-pub fn pick(test: bool, a: u64, b: u64) -> u64
+pub fn pick<T: Drop>(test: bool, a: T, b: T) -> T
     ensures { result ≡ cond test a b }
 {
     if test { a } else { b }
-}
-
-// The same choice of two bools: one function can't serve both types.
-pub fn select(test: bool, yes: bool, no: bool) -> bool
-    ensures { result ≡ cond test yes no }
-{
-    if test { yes } else { no }
 }

@@ -1,10 +1,9 @@
 -- A call that tests the record, by how its first test goes; and replies of what was made.
 use Prim.Native.Nat.{ℕ}
-use mathlib.Core.Bool.{Bool, true, false, cond}
+use mathlib.Core.Bool.{Bool, false, cond}
 use mathlib.Core.List.{List}
 use mathlib.Core.Path.{◌≡◌, sym, ◌∙◌, ap, subst}
 use Rattle.answer.specs.declared.Answer.{Answer}
-use Rattle.answer.specs.declared.Refusal.{Refusal}
 use Rattle.answer.specs.declared.Refusal.TheVariants.{FieldTooLarge}
 use Rattle.answer.specs.Refused.{is_refused}
 use Rattle.calls_fields.specs.Fields.{Made}
@@ -19,26 +18,9 @@ use Rattle.words.specs.Put.{put}
 use Rattle.words.specs.Call.{call_of, Called}
 use Rattle.calls.specs.Replied.{Replied}
 
--- refused: every word stays
-pub refused-call :
-    (o : Outcome) (n : Refusal) (changed : Machine → List ℕ → List ℕ) (s : List ℕ) → refused n (record_of s) ≡ o → (r : Reply)
-    → r ≡ reply_of (Answer.Refused n)
-    → Replied o changed s r s
-refused-call o n changed s e r q =
-    record {
-      reply = q ∙ ap (λ (o : Outcome). reply_of o.answer) e;
-      holds = ap (λ (o : Outcome). o.machine) e;
-      words = ap (λ (o : Outcome). cond (is_refused o.answer) s (changed o.machine s)) e;
-    }
-
-module _ (f : Machine → Outcome) (s : List ℕ) where
-  -- words that no record has are refused with 10
-  pub untyped-call : untyped s ≡ true → refused FieldTooLarge (record_of s) ≡ call_of f s
-  untyped-call e = sym (ap (λ (b : Bool). cond b (refused FieldTooLarge (record_of s)) (f (record_of s))) e)
-
-  -- and others are as by value
-  pub typed_call : untyped s ≡ false → f (record_of s) ≡ call_of f s
-  typed_call e = sym (ap (λ (b : Bool). cond b (refused FieldTooLarge (record_of s)) (f (record_of s))) e)
+-- words that a record by value can have: as by value
+pub typed_call : (f : Machine → Outcome) (s : List ℕ) → untyped s ≡ false → f (record_of s) ≡ call_of f s
+typed_call f s e = sym (ap (λ (b : Bool). cond b (refused FieldTooLarge (record_of s)) (f (record_of s))) e)
 
 -- what was made in the words, replied
 pub called-reply :
@@ -57,16 +39,6 @@ made-reply o changed s a after m r q =
       reply = q ∙ ap reply_of m.answered;
       holds = m.holds;
       words = m.words ∙ ap (λ (a : Answer). cond (is_refused a) s (changed o.machine s)) m.answered;
-    }
-
--- refused before the record is looked at: every word stays
-pub refused-called :
-    (o : Outcome) (n : Refusal) (s : List ℕ) → refused n (record_of s) ≡ o → Called o s (Answer.Refused n) s
-refused-called o n s e =
-    record {
-      answered = ap (λ (o : Outcome). o.answer) e;
-      holds = ap (λ (o : Outcome). o.machine) e;
-      words = ap (λ (o : Outcome). cond (is_refused o.answer) s (put o.machine s)) e;
     }
 
 -- what was made in the words, by another name of its outcome

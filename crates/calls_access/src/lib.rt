@@ -2,12 +2,12 @@
 // where they stand, and what the access leaves is stored.
 #![tactic(auto)]
 
-ghost use Rattle.std.specs.Prelude.{◌≡◌, length};
+ghost use Rattle.std.specs.Prelude.{◌≡◌};
 ghost use Rattle.rules.specs.Apply.{apply};
 ghost use Rattle.rules.specs.Step.{step};
 ghost use Rattle.state.specs.State.{view_at};
 ghost use Rattle.undo.specs.Undo.{change_of, change_by};
-ghost use Rattle.words.specs.Words.{record_of, counters_of, word_count};
+ghost use Rattle.words.specs.Words.{record_of, counters_of};
 ghost use Rattle.calls_access.specs.Access.{Taken, Did};
 
 use answer::Answer;
@@ -23,17 +23,18 @@ pub struct Acted {
     pub change: Change,
 }
 
-// What a decision may look at, with the event counters in the words.
-fn view(m: &[u64], level: u8, s: Settings, ovs: u64) -> View
-    requires { length m.now ≡ word_count }
+// What a decision may look at, with the event counters in the words. It is a function of its own for speed: in `access` itself
+// a counter read took 6 instructions more.
+fn view(m: &[u64; 143], level: u8, s: Settings, ovs: u64) -> View
     ensures { result ≡ view_at level s (counters_of m.now) ovs }
 {
     state::view_at(level, s, &m[0x60..0x7F], ovs)
 }
 
-// A decision carried out in the words, from which the settings and the values were taken. Only an increment takes event numbers
-// from them.
-fn apply(d: Decision, m: &mut [u64], s: Settings, v: Values) -> Acted
+// A decision carried out in the words, from which the settings and the values were taken. The arms are those of `access::apply`,
+// which takes the event numbers as an array: that would be made of the words at each access and not for an increment alone, at 89
+// instructions an access (docs/PERFORMANCE.md, "A call on words").
+fn apply(d: Decision, m: &mut [u64; 143], s: Settings, v: Values) -> Acted
     requires { Taken m.old s v }
     ensures { Did (apply d (record_of m.old)) (change_of d (record_of m.old))
         m.old
@@ -48,7 +49,7 @@ fn apply(d: Decision, m: &mut [u64], s: Settings, v: Values) -> Acted
         Decision::Read { place, rt } => Acted {
             answer: Answer::Mrs {
                 value: places::shown(&m[0x60..0x7F], s, v, place),
-                rt: rt,
+                rt,
             },
             change: undo::UNCHANGED,
         },
@@ -58,14 +59,13 @@ fn apply(d: Decision, m: &mut [u64], s: Settings, v: Values) -> Acted
             words::keep::values(m, after);
             Acted {
                 answer: Answer::Ok,
-                change: change,
+                change,
             }
         }
         Decision::Add { mask } => {
             let events = words::decode::events(m);
-            let mut after = v;
-            after.ovs = counters::increment(&mut m[0x60..0x7F], &events, s, mask, v.ovs);
-            words::keep::values(m, after);
+            let ovs = counters::increment(&mut m[0x60..0x7F], &events, s, mask, v.ovs);
+            words::keep::values(m, Values { ovs, ..v });
             Acted {
                 answer: Answer::Ok,
                 change: undo::of_increments(mask),
@@ -83,7 +83,7 @@ pub fn access(m: &mut [u64; 143], w: u32, x: u64) -> Acted
 {
     let s = words::decode::settings(m);
     let v = words::decode::values(m);
-    let level = (m[0x8E] % 0x100) as u8;
+    let level = words::decode::level(m);
     let d = decide::decide(view(m, level, s, v.ovs), w, x);
     apply(d, m, s, v)
 }

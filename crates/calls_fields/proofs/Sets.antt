@@ -12,7 +12,7 @@ use Rattle.answer.specs.declared.Refusal.{Refusal}
 use Rattle.fields.specs.Largest.{largest, exceeds, largest_level}
 use Rattle.fields.specs.Set.{pmsicr_after, set_level}
 use Rattle.fields.specs.Set as command
-use Rattle.fields.proofs.Below.{below}
+use Rattle.std.proofs.lemmas.Bool.{agree_below_at}
 use Rattle.fields.proofs.SetLaws.{event-largest, within-largest, set-stored, level-put}
 use Rattle.machine.specs.declared.Machine.{Machine}
 use Rattle.machine.specs.declared.Outcome.{Outcome}
@@ -30,7 +30,7 @@ small_test f = eqb (largest f) 0 || ltb f level_word
 
 small-test : (f : ℕ) → f < 256 → small_test f ≡ true
 unfolding small_test largest
-small-test = below small_test 256 refl
+small-test f = agree_below_at small_test (λ _. true) 256 f refl
 
 pub field-small : (f : ℕ) → f < 256 → (largest f ≡ 0 → ⊥) → f < level_word
 unfolding small_test

@@ -1,9 +1,11 @@
 -- What was kept of a command, put back into the words: they then hold the record with it put back.
-use Prim.Native.Nat.{ℕ, ◌-◌, ◌^◌, ◌<◌}
+use Prim.Native.Nat.{ℕ, ◌+◌, ◌-◌, ◌^◌, ◌<◌, ◌≤◌}
 use mathlib.Core.Bool.{Bool, true, false, cond}
 use mathlib.Core.List.{List}
+use Rattle.std.proofs.Common.{◌⊎◌, inl, inr}
 use mathlib.Core.Path.{◌≡◌, refl, sym, ◌∙◌, ap}
 use native.Mathlib.Omega.{arith}
+use borrow.Author.Tests.{ne_eqb, le-leb, lt-leb}
 use lib.Dec.{eqb}
 use lib.ListN.{length, set, length-set, length-take, length-drop, drop}
 use Rattle.counters.specs.Decremented.{decremented}
@@ -19,7 +21,7 @@ use Rattle.undo.specs.declared.Undo.{Undo}
 use Rattle.undo.specs.Undo.{increments, settings_before, counters_before, values_before, undone}
 use Rattle.words.specs.Words.{word, settings_of, counters_of, events_of, values_of, record_of, level_word, word_count}
 use Rattle.words.specs.Put.{put_counters, put_values, put}
-use Rattle.words.proofs.Puts.{changed, put_holds, put-long, levelled}
+use Rattle.words.proofs.Puts.{changed, put_holds, put-long, counters-stay, counter-set, levelled}
 use Rattle.calls_fields.specs.Fields.{words_back}
 
 -- as many event counters as before
@@ -44,6 +46,23 @@ enables-before c s = go (eqb c.field 0x34)
     go : (b : Bool) → cond b (store_settings 0x34 c.old s) s ≡ store_settings 0x34 (cond b c.old s.cnten) s
     go true = refl
     go false = refl
+
+-- the event counters with what was kept put back, where it is one counter, and where it is none
+module _ (s e : List ℕ) (c : Change) (p5 : Bool) where
+  pub one-back :
+      0x60 ≤ c.field → c.field ≤ 0x7E → set s c.field c.old ≡ put_counters (counters_before c p5 e (counters_of s)) s
+  one-back low high =
+      let at : 0x60 + (c.field - 0x60) ≡ c.field = omega arith in
+      let here = counter-set s (c.field - 0x60) c.old (omega arith) in
+      rw (ne_eqb c.field increments (λ z. omega (arith, z)), le-leb 0x60 c.field low, le-leb c.field 0x7E high) (rw at at here)
+
+  pub none-back :
+      (c.field ≡ increments → ⊥) → (c.field < 0x60) ⊎ (0x7E < c.field)
+      → s ≡ put_counters (counters_before c p5 e (counters_of s)) s
+  none-back other (inl low) =
+      rw (ne_eqb c.field increments other, lt-leb 0x60 c.field low) (sym (counters-stay s))
+  none-back other (inr high) =
+      rw (ne_eqb c.field increments other, le-leb 0x60 c.field (omega arith), lt-leb c.field 0x7E high) (sym (counters-stay s))
 
 module _ (s : List ℕ) (h : length s ≡ word_count) (u : Undo) (small : u.level < 2 ^ 8) where
   c : Change

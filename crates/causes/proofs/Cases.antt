@@ -10,8 +10,9 @@ use Rattle.machine.specs.declared.Machine.{Machine}
 use Rattle.rules.specs.declared.Register.{Register}
 use Rattle.rules.specs.declared.Register.TheVariants.{Pmevcntr, Pmswinc, Pmicntr, Pmsicr, Other}
 use Rattle.rules.specs.Step.{undefined_at_once}
-use Rattle.rules.specs.Traps.{disabled_target, stop_at_el3, counter_rules, icntr_rules, pmsicr_rules, pmicntr_bit, pmsicr_bit, rules_of}
-use Rattle.state.specs.declared.Verdict.TheVariants.{Consistent}
+use Rattle.rules.specs.Traps.{disabled_target, stop_at_el3, counter_rules, icntr_rules, pmsicr_rules, pmicntr_bit, pmsicr_bit}
+use Rattle.rules.specs.Traps.{rules_of}
+use Rattle.std.specs.Prelude.{Ok}
 use Rattle.state.specs.declared.View.{View}
 use Rattle.state.specs.State.{view_of, verdict_of}
 use Rattle.store.specs.Store.{store, store_settings, store_features, store_mdcr2, store_mdcr3, store_pmuacr, store_sampling}
@@ -35,7 +36,7 @@ lowest-allowed v Other read n = refl
 
 -- of a consistent record, with HPMN put to a number that is allowed
 pub opens :
-    (r : Machine) (h : ℕ) (c : Cause) (g : Register) (read : Bool) → verdict_of (view_of r) ≡ Consistent
+    (r : Machine) (h : ℕ) (c : Cause) (g : Register) (read : Bool) → verdict_of (view_of r) ≡ Ok tt
     → allows (view_of r) g h ≡ true
     → Opened c g read (view_of r) (view_of (set_all (opening r.settings h c g read) r))
 unfolding

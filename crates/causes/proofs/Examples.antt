@@ -21,7 +21,8 @@ use Rattle.causes.specs.Opening.{in_turn, all_closed, turns_actual, turns_expect
 -- MODEL D0 to D9: one control closed, and two
 pub examples-hold : map actual (single ++ pairs) ≡ map expected (single ++ pairs)
 unfolding
-    largest set set_all view_of too_large refusals verdict_of store store_settings store_features store_mdcr2 store_mdcr3 store_pmuacr
+    largest set set_all view_of too_large refusals verdict_of store store_settings store_features store_mdcr2 store_mdcr3
+    store_pmuacr
     store_sampling
     named register syndrome decode written disabled_target stop_at_el3 counter_rules icntr_rules pmsicr_rules rules_of stop_of
     decide_register decide apply step perform perform_all usual start actual expected single pairs
@@ -35,7 +36,8 @@ settings-valid = refl
 -- MODEL D10 to D13: all controls closed, and opened one after the other as the causes name them
 pub turns-hold : map turns_actual turn_examples ≡ map turns_expected turn_examples
 unfolding
-    largest set set_all view_of too_large refusals verdict_of store store_settings store_features store_mdcr2 store_mdcr3 store_pmuacr
+    largest set set_all view_of too_large refusals verdict_of store store_settings store_features store_mdcr2 store_mdcr3
+    store_pmuacr
     store_sampling
     named register syndrome decode written disabled_target stop_at_el3 counter_rules icntr_rules pmsicr_rules rules_of stop_of
     place_access add_mask raised incremented implemented from_bits decide_register decide apply step usual

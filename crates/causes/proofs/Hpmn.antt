@@ -18,7 +18,7 @@ use Rattle.rules.specs.Step.{undefined_at_once}
 use Rattle.rules.specs.Traps.{up_to, el2_enabled, inaccessible, disabled_target, stop_at_el3}
 use Rattle.rules.specs.Traps.{counter_rules, pmevcntr_disabled, pmevcntr_bit, rules_of}
 use Rattle.state.proofs.Consistent.{n-fits, passed}
-use Rattle.state.specs.declared.Verdict.TheVariants.{Consistent}
+use Rattle.std.specs.Prelude.{Ok}
 use Rattle.state.specs.declared.View.{View}
 use Rattle.state.specs.State.{view_of, too_large, refusals, verdict_of}
 use Rattle.store.specs.Store.{store, store_settings, store_features, store_mdcr2, store_mdcr3, store_pmuacr, store_sampling}
@@ -36,7 +36,7 @@ next-allowed v m read defined =
     rw (lt-ltb m (m + 1) (omega arith)) (le-leb (m + 1) n (omega (arith, below)))
 
 module _ (r : Machine) (m h : ℕ) (read : Bool)
-    (consistent : verdict_of (view_of r) ≡ Consistent) (allowed : allows (view_of r) (Pmevcntr m) h ≡ true) where
+    (consistent : verdict_of (view_of r) ≡ Ok tt) (allowed : allows (view_of r) (Pmevcntr m) h ≡ true) where
   abbrev v : View
   v = view_of r
 
@@ -62,8 +62,9 @@ module _ (r : Machine) (m h : ℕ) (read : Bool)
   is_set = ap (λ b. (cond b (refused ValueTooLarge r) (done u)).machine) fits
 
   -- and the record stays consistent: rows 0, 3 and 4 look at HPMN
-  still : verdict_of (view_of u) ≡ Consistent
-  unfolding verdict_of refusals too_large view_of store store_settings store_features store_mdcr2 store_mdcr3 store_pmuacr store_sampling
+  still : verdict_of (view_of u) ≡ Ok tt
+  unfolding verdict_of refusals too_large view_of store store_settings store_features store_mdcr2 store_mdcr3 store_pmuacr
+      store_sampling
   still =
       let p = passed v consistent in
       let large =

@@ -11,17 +11,18 @@ use Rattle.machine.specs.declared.Machine.{Machine}
 use Rattle.rules.specs.declared.Register.TheVariants.{Pmsicr}
 use Rattle.rules.specs.Traps.{stop_at_el3, nspb_bars, pmsicr_rules, rules_of}
 use Rattle.state.proofs.Consistent.{passed}
-use Rattle.state.specs.declared.Verdict.TheVariants.{Consistent}
+use Rattle.std.specs.Prelude.{Ok}
 use Rattle.state.specs.State.{view_of, too_large, refusals, verdict_of}
 use Rattle.store.specs.Store.{store, store_settings, store_features, store_mdcr2, store_mdcr3, store_pmuacr, store_sampling}
 use Rattle.causes.specs.Responsible.{nspb_open, opening}
 use Rattle.causes.proofs.Opened.{Opened, replaced}
 use Rattle.causes.proofs.Tables.{nspb-open}
 
-module _ (r : Machine) (read : Bool) (consistent : verdict_of (view_of r) ≡ Consistent) where
+module _ (r : Machine) (read : Bool) (consistent : verdict_of (view_of r) ≡ Ok tt) where
   -- with a number that fits
-  still : (x : ℕ) → exceeds x 0x88 ≡ false → verdict_of (view_of (store 0x88 x r)) ≡ Consistent
-  unfolding verdict_of refusals too_large view_of store store_settings store_features store_mdcr2 store_mdcr3 store_pmuacr store_sampling
+  still : (x : ℕ) → exceeds x 0x88 ≡ false → verdict_of (view_of (store 0x88 x r)) ≡ Ok tt
+  unfolding verdict_of refusals too_large view_of store store_settings store_features store_mdcr2 store_mdcr3 store_pmuacr
+      store_sampling
   still x fits =
       let v = view_of r in
       let p = passed v consistent in
@@ -36,7 +37,8 @@ module _ (r : Machine) (read : Bool) (consistent : verdict_of (view_of r) ≡ Co
   opened :
       (x : ℕ) → exceeds x 0x88 ≡ false → nspb_bars (view_of (store 0x88 x r)) ≡ false
       → Opened Nspb Pmsicr read (view_of r) (view_of (store 0x88 x r))
-  unfolding view_of store store_settings store_features store_mdcr2 store_mdcr3 store_pmuacr store_sampling rules_of pmsicr_rules stop_at_el3
+  unfolding view_of store store_settings store_features store_mdcr2 store_mdcr3 store_pmuacr store_sampling rules_of pmsicr_rules
+      stop_at_el3
   opened x fits e =
       record {
         consistent = λ c. still x fits;

@@ -11,7 +11,7 @@ use Rattle.rules.specs.declared.Register.TheVariants.{Pmevcntr, Pmswinc, Pmicntr
 use Rattle.rules.specs.Permitted.{add_mask}
 use Rattle.rules.specs.Step.{undefined_at_once, permitted}
 use Rattle.rules.specs.Traps.{rules_of}
-use Rattle.state.specs.declared.Verdict.TheVariants.{Consistent}
+use Rattle.std.specs.Prelude.{Ok}
 use Rattle.state.specs.declared.View.{View}
 use Rattle.state.specs.State.{too_large, refusals, verdict_of}
 use Rattle.causes.proofs.Rows.{Opens}
@@ -60,7 +60,7 @@ with_controls_of w v =
 
 -- what is shown of opening the control of a cause for a register and a direction
 pub record Opened (c : Cause) (g : Register) (read : Bool) (v w : View) : Type 0 where
-  pub consistent : verdict_of v ≡ Consistent → verdict_of w ≡ Consistent
+  pub consistent : verdict_of v ≡ Ok tt → verdict_of w ≡ Ok tt
   pub defined : undefined_at_once w g read ≡ undefined_at_once v g read
   pub permits : (i : Instruction) (x : ℕ) → permitted w g i x ≡ permitted v g i x
   pub rows : Opens c (rules_of v g read) (rules_of w g read)
@@ -87,7 +87,8 @@ module _ (v w : View) where
 
 -- where none but these has changed, the rows are what is left to show
 pub by_rows :
-    (c : Cause) (g : Register) (read : Bool) (v w : View) → w ≡ with_controls_of w v → Opens c (rules_of v g read) (rules_of w g read)
+    (c : Cause) (g : Register) (read : Bool) (v w : View) → w ≡ with_controls_of w v
+    → Opens c (rules_of v g read) (rules_of w g read)
     → Opened c g read v w
 by_rows c g read v w e o =
     record {

@@ -7,7 +7,7 @@ use Rattle.rules.specs.Apply.{apply}
 use Rattle.rules.specs.Step.{decide_register, decide, step}
 use Rattle.rules.specs.Traps.{rules_of, stop_of}
 use Rattle.rules.specs.Word.{decode}
-use Rattle.state.specs.declared.Verdict.TheVariants.{Consistent}
+use Rattle.std.specs.Prelude.{Ok}
 use Rattle.state.specs.declared.View.{View}
 use Rattle.state.specs.State.{view_of, verdict_of}
 use Rattle.rules.proofs.Decided.{in_order}
@@ -18,7 +18,7 @@ use Rattle.causes.proofs.Cases.{lowest-allowed, opens}
 
 -- on a consistent record the decision is that about the register
 of-register :
-    (v : View) (w x : ℕ) → verdict_of v ≡ Consistent → decide v w x ≡ decide_register v (decode w).register (decode w) x
+    (v : View) (w x : ℕ) → verdict_of v ≡ Ok tt → decide v w x ≡ decide_register v (decode w).register (decode w) x
 unfolding decide
 of-register v w x e = rw e
 

@@ -19,8 +19,8 @@ use Rattle.rules.specs.Permitted.{place_access, denied, read_only, denied_f0, re
 use Rattle.rules.specs.Step.{undefined_at_once, unless_stopped, unless_refused, permitted, decide_register, decide, step}
 use Rattle.rules.specs.Traps.{stop_of}
 use Rattle.rules.specs.Word.{decode, written}
-use Rattle.state.specs.declared.Verdict.{Verdict}
-use Rattle.state.specs.declared.Verdict.TheVariants.{Consistent, Refused}
+use Rattle.std.specs.Prelude.{Result, ⊤, Ok, Err}
+use Rattle.answer.specs.declared.Refusal.{Refusal}
 use Rattle.state.specs.declared.View.{View}
 use Rattle.state.specs.State.{view_of, verdict_of}
 use Rattle.machine.proofs.Bools.{chosen}
@@ -40,7 +40,8 @@ module _ (r : Machine) where
   abbrev Quiet : Decision → Type 0
   Quiet d = shown_stop (said d) ≡ Stop.Pass
 
-  quiet-place : (isDenied isReadOnly : Bool) (q : Place) (i : Instruction) (x : ℕ) → Quiet (place_access isDenied isReadOnly q i x)
+  quiet-place : (isDenied isReadOnly : Bool) (q : Place) (i : Instruction) (x : ℕ)
+      → Quiet (place_access isDenied isReadOnly q i x)
   unfolding place_access apply
   quiet-place isDenied isReadOnly q i x =
       chosen Quiet i.read _ _
@@ -75,15 +76,15 @@ module _ (r : Machine) where
 
   -- to a consistent record
   consistent-said :
-      (s : Verdict) (d : Decision) (t : Trap) → said (unless_refused s d) ≡ Answer.Trap t
-      → (s ≡ Consistent) × (said d ≡ Answer.Trap t)
+      (s : Result ⊤ Refusal) (d : Decision) (t : Trap) → said (unless_refused s d) ≡ Answer.Trap t
+      → (s ≡ Ok tt) × (said d ≡ Answer.Trap t)
   unfolding apply
-  consistent-said Consistent d t e = (refl, e)
-  consistent-said (Refused n) d t e = absurd (true≢false (ap (λ a. is_pass (shown_stop a)) e))
+  consistent-said (Ok _) d t e = (refl, e)
+  consistent-said (Err n) d t e = absurd (true≢false (ap (λ a. is_pass (shown_stop a)) e))
 
   -- what is known of an access that answers a trap
   pub record Trapped (w : ℕ) (t : Trap) : Type 0 where
-    pub consistent : verdict_of (view_of r) ≡ Consistent
+    pub consistent : verdict_of (view_of r) ≡ Ok tt
     pub defined : undefined_at_once (view_of r) (decode w).register (decode w).read ≡ false
     pub stops : stop_of (view_of r) (decode w).register (decode w).read ≡ Stop.Trap t.target t.cause
 

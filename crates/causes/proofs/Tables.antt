@@ -75,7 +75,8 @@ module _ (r : Machine) where
     bit-off = refl ⇊ refl ⇊ here (simp and-false) (refl ⨾ refl ⨾ el3 FineGrained Mdcr3Tpm v refl ⨾ nil)
 
     pub tpm2-off : Opens Mdcr2Tpm (counter_rules v d t h) (counter_rules (view_of (set_all ((0x26, 0) ∷ []) r)) d t h)
-    unfolding counter_rules stop_at_el3 view_of set set_all store store_settings store_features store_mdcr2 store_mdcr3 store_pmuacr
+    unfolding counter_rules stop_at_el3 view_of set set_all store store_settings store_features store_mdcr2 store_mdcr3
+        store_pmuacr
         store_sampling largest
     tpm2-off = refl ⇊ refl ⇊ refl ⇊ here (simp and-false) (refl ⨾ el3 Mdcr2Tpm Mdcr3Tpm v refl ⨾ nil)
 
@@ -125,7 +126,8 @@ module _ (r : Machine) where
         here (and-false at_el3) (el3 EnPm2 Mdcr3Tpm v refl ⨾ nil)
 
     pub icntr-tpm3-off : Opens Mdcr3Tpm (icntr_rules v n) (icntr_rules (view_of (set_all ((0x28, 0) ∷ []) r)) n)
-    unfolding icntr_rules view_of set set_all store store_settings store_features store_mdcr2 store_mdcr3 store_pmuacr store_sampling
+    unfolding icntr_rules view_of set set_all store store_settings store_features store_mdcr2 store_mdcr3 store_pmuacr
+        store_sampling
         largest
     icntr-tpm3-off =
         (refl, tpm-open at_once v.settings.mdcr3.enpm2 v.settings.mdcr3.tpm) ⇣ refl ⇊ refl ⇊ refl ⇊
@@ -146,7 +148,8 @@ module _ (r : Machine) where
     pmsicr-bit-off = refl ⇊ here (simp and-false) (refl ⨾ el3 FineGrained Nspb v refl ⨾ nil)
 
     pub tpms-off : Opens Tpms (pmsicr_rules v t) (pmsicr_rules (view_of (set_all ((0x86, 0) ∷ []) r)) t)
-    unfolding pmsicr_rules stop_at_el3 view_of set set_all store store_settings store_features store_mdcr2 store_mdcr3 store_pmuacr
+    unfolding pmsicr_rules stop_at_el3 view_of set set_all store store_settings store_features store_mdcr2 store_mdcr3
+        store_pmuacr
         store_sampling largest
     tpms-off = refl ⇊ refl ⇊ here (simp and-false) (el3 Tpms Nspb v refl ⨾ nil)
 

@@ -1,5 +1,5 @@
 -- What it is for the cause of a trap to be responsible: the control that it names, put to its open value, and what comes of it.
-use Rattle.std.specs.Prelude.{ℕ, ◌+◌, Bool, true, false, cond, ◌&&◌, ◌||◌, List, [], ◌∷◌, ◌++◌, ◌≡◌, leb, ltb, eqb}
+use Rattle.std.specs.Prelude.{ℕ, ◌+◌, Bool, true, false, cond, ◌&&◌, ◌||◌, List, [], ◌∷◌, ◌++◌, ◌≡◌, leb, ltb, eqb, Ok}
 use Rattle.answer.specs.declared.Answer.{Answer}
 use Rattle.answer.specs.declared.Cause.{Cause}
 use Rattle.answer.specs.declared.Cause.TheVariants.{Pmuserenr, FineGrained, Mdcr2Tpm, Hpmn, Mdcr3Tpm, EnPm2, FgtEn2, Tpms, Nspb}
@@ -15,7 +15,6 @@ use Rattle.rules.specs.declared.Stop.{Stop}
 use Rattle.rules.specs.Step.{unless_stopped, permitted, decide, step}
 use Rattle.rules.specs.Traps.{rules_of}
 use Rattle.rules.specs.Word.{decode}
-use Rattle.state.specs.declared.Verdict.TheVariants.{Consistent}
 use Rattle.state.specs.declared.View.{View}
 use Rattle.state.specs.State.{view_of, verdict_of}
 
@@ -115,7 +114,7 @@ is_by c (Stop.Trap l d) = eqb (cause_number c) (cause_number d)
 -- are the rows behind the one that stopped it
 pub record GoesOn (w x : ℕ) (r : Machine) (c : Cause) (later : List (Bool × Stop)) (h : ℕ) : Type 0 where
   -- MODEL D11: the record is consistent
-  pub consistent : verdict_of (view_of (opened h c w r)) ≡ Consistent
+  pub consistent : verdict_of (view_of (opened h c w r)) ≡ Ok tt
   -- MODEL D12: those rows decide, as they were before
   pub decided :
       decide (view_of (opened h c w r)) w x

@@ -6,6 +6,8 @@ use native.Mathlib.Nat.{pow-succ', mul_assoc}
 use native.Mathlib.Omega.{arith}
 use lib.ListN.{length, get_or, take, drop, length-drop}
 use lib.Seq.{take-add, drop-drop, drop-cons, length-take-le}
+use Rattle.std.proofs.Common.{rules}
+use Rattle.std.specs.Int.{w32, w64, from_le_bytes}
 use Rattle.command.specs.Operand.{little, operand}
 
 little-append : (a b : List ℕ) → little (a ++ b) ≡ little a + 256 ^ length a * little b
@@ -36,3 +38,11 @@ operand-behind s at n = ap (λ l. little (take n l)) (drop-drop at 1 s)
 -- the byte behind the command's byte
 pub byte-behind : (s : List ℕ) → 1 < length s → get_or s 1 0 ≡ operand (drop 1 s) 0 1
 byte-behind s h = sym (operand-behind s 0 1 ∙ operand-one s 1 h)
+
+-- operands of four and of eight bytes, as the library reads them
+module _ (s : List ℕ) (at : ℕ) {bytes : List ℕ} {n : ℕ} where
+  pub four-read : at + 4 ≤ length s → bytes ≡ take 4 (drop at s) → n ≡ from_le_bytes w32 bytes → n ≡ operand s at 4
+  four-read h e p = search rules
+
+  pub eight-read : at + 8 ≤ length s → bytes ≡ take 8 (drop at s) → n ≡ from_le_bytes w64 bytes → n ≡ operand s at 8
+  eight-read h e p = search rules

@@ -5,6 +5,8 @@ use mathlib.Core.List.{List}
 use mathlib.Core.Path.{◌≡◌, sym, ◌∙◌, ap}
 use native.Mathlib.Omega.{arith}
 use lib.ListN.{length, take, drop}
+use Rattle.std.specs.Prelude.{Result}
+use Rattle.answer.specs.declared.Refusal.{Refusal}
 use Rattle.command.specs.declared.Command.{Command}
 use Rattle.form.specs.declared.Form.{Form}
 use Rattle.command.specs.Command.{command_of, size_at, is_last}
@@ -15,12 +17,13 @@ pub size-here : (s : List ℕ) (at : ℕ) {n : ℕ} → n ≡ size_at (take (len
 size-here s at e = e ∙ ap size_at (part-all s at)
 
 module _ (f : Form) (s : List ℕ) (at : ℕ) where
-  pub command-here : {c : Command} → c ≡ command_of f (take (length s - at) (drop at s)) → c ≡ command_of f (drop at s)
+  pub command-here : {c : Result Command Refusal} → c ≡ command_of f (take (length s - at) (drop at s)) → c
+      ≡ command_of f (drop at s)
   command-here e = e ∙ ap (command_of f) (part-all s at)
 
   -- a command that is not the last takes a byte or more
   pub size-some-here :
-      {c : Command} → c ≡ command_of f (take (length s - at) (drop at s))
+      {c : Result Command Refusal} → c ≡ command_of f (take (length s - at) (drop at s))
       → {n : ℕ} → n ≡ size_at (take (length s - at) (drop at s))
       → is_last c ≡ false
       → 1 ≤ n

@@ -2,6 +2,7 @@
 use Prim.Native.Nat.{ℕ, zero, suc}
 use mathlib.Core.List.{List, [], ◌∷◌}
 use lib.ListN.{length, drop}
+use Rattle.std.specs.Prelude.{Result, Ok, Err}
 use Rattle.answer.specs.declared.Refusal.{Refusal}
 use Rattle.answer.specs.declared.Refusal.TheVariants.{UnknownCommand, Truncated, SetTooWide}
 use Rattle.bits.proofs.Choice.{either}
@@ -12,19 +13,11 @@ use Rattle.command.specs.Command.{command_of, size_at, is_last, commands_from, c
 
 module _ (P : Refusal → Type 0) where
   -- what holds of the refusal that is met in reading a command, if one is
-  abbrev pub Met : Command → Type 0
-  Met Command.End = Unit {0}
-  Met (Command.Set f v) = Unit {0}
-  Met (Command.Level l) = Unit {0}
-  Met (Command.Access w x) = Unit {0}
-  Met (Command.Read o) = Unit {0}
-  Met (Command.Write o x) = Unit {0}
-  Met (Command.Tick p) = Unit {0}
-  Met Command.Back = Unit {0}
-  Met (Command.Member d) = Unit {0}
-  Met (Command.Bad r) = P r
+  abbrev pub Met : Result Command Refusal → Type 0
+  Met (Ok c) = Unit {0}
+  Met (Err r) = P r
 
-  abbrev pub AllMet : List Command → Type 0
+  abbrev pub AllMet : List (Result Command Refusal) → Type 0
   AllMet [] = Unit {0}
   AllMet (c ∷ cs) = Met c × AllMet cs
 

@@ -7,6 +7,8 @@ use native.Mathlib.Omega.{arith}
 use borrow.Author.Tests.{leb-true}
 use lib.Dec.{leb}
 use lib.ListN.{length, get_or}
+use Rattle.std.specs.Prelude.{Result, Ok}
+use Rattle.answer.specs.declared.Refusal.{Refusal}
 use Rattle.command.specs.declared.Command.{Command}
 use Rattle.form.specs.declared.Form.{Form}
 use Rattle.bits.proofs.Choice.{either}
@@ -25,24 +27,25 @@ pub few-operands : (c : ℕ) → operand_bytes c ≤ 12
 few-operands c = search (either (λ n. n ≤ 12), leb-true) depth 12
 
 -- a command with n bytes of operands: if it is neither the last nor a step back, it has some
-HasOperands : Command → ℕ → Type 0
+HasOperands : Result Command Refusal → ℕ → Type 0
 HasOperands c n = is_last c ≡ false → is_back c ≡ false → 1 ≤ n
 
 -- the tables of commands and of their sizes go by the same tests
 either-operands :
-    (b : Bool) (x y : Command) (n m : ℕ) → HasOperands x n → HasOperands y m → HasOperands (cond b x y) (cond b n m)
+    (b : Bool) (x y : Result Command Refusal) (n m : ℕ) → HasOperands x n → HasOperands y m
+    → HasOperands (cond b x y) (cond b n m)
 either-operands true x y n m p q = p
 either-operands false x y n m p q = q
 
-operands : (c : Command) (n : ℕ) → leb 1 n ≡ true → HasOperands c n
+operands : (c : Result Command Refusal) (n : ℕ) → leb 1 n ≡ true → HasOperands c n
 unfolding HasOperands
 operands c n h e k = leb-true 1 n h
 
-end-operands : HasOperands Command.End 0
+end-operands : HasOperands (Ok Command.End) 0
 unfolding HasOperands
 end-operands e k = absurd (true≢false e)
 
-back-operands : HasOperands Command.Back 0
+back-operands : HasOperands (Ok Command.Back) 0
 unfolding HasOperands
 back-operands e k = absurd (true≢false k)
 

@@ -1,3 +1,4 @@
 -- The definitions of the crate `command`.
 pub mod Operand
 pub mod Command
+pub mod Left

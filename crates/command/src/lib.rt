@@ -3,14 +3,14 @@
 
 pub mod reading; // reading.rt: how far reading goes on
 
-ghost use Rattle.std.specs.Prelude.{◌≡◌, ◌+◌, ◌≤◌, ◌<◌, ◌^◌, length, drop};
+ghost use Rattle.std.specs.Prelude.{◌≡◌, ◌+◌, ◌≤◌, length, take, drop};
 ghost use Rattle.command.specs.Operand.{operand};
 ghost use Rattle.command.specs.Command.{operand_bytes, set_of, command_with, command_of};
 
 use answer::Refusal;
 use form::Form;
 
-// A command of a session with its operands, or why its bytes are none.
+// A command of a session with its operands.
 #[derive(Clone, Copy)]
 pub enum Command {
     End,
@@ -22,51 +22,32 @@ pub enum Command {
     Tick { prohibited: u8 },
     Back,
     Member { draw: u8 },
-    Bad(Refusal),
 }
 
-// A byte as a 64-bit number.
-fn zero_extend(x: u8) -> u64
-    ensures { (result ≡ x) × (result < 256) }
+// So many bytes, from a place on.
+fn bytes<const N: usize>(s: &[u8], at: usize) -> [u8; N]
+    requires { at + N ≤ length s.now }
+    ensures { result ≡ take N (drop at s.now) }
 {
-    x as u64
+    s[at..at + N].try_into().unwrap()
 }
 
-// The number in two bytes.
-fn two(s: &[u8], at: usize) -> u64
-    requires { at + 2 ≤ length s.now }
-    ensures { (result ≡ operand s.now at 2) × (result < 2 ^ 16) }
+// The offset that an external access's operands begin with.
+fn offset(t: &[u8]) -> u16
+    requires { 2 ≤ length t.now }
+    ensures { result ≡ operand t.now 0 2 }
 {
-    zero_extend(s[at]) + 256 * zero_extend(s[at + 1])
-}
-
-// The number in four bytes.
-fn four(s: &[u8], at: usize) -> u64
-    requires { at + 4 ≤ length s.now }
-    ensures { (result ≡ operand s.now at 4) × (result < 2 ^ 32) }
-{
-    two(s, at) + 0x10000 * two(s, at + 2)
-}
-
-// The number in eight bytes.
-fn eight(s: &[u8], at: usize) -> u64
-    requires { at + 8 ≤ length s.now }
-    ensures { result ≡ operand s.now at 8 }
-{
-    four(s, at) + 0x100000000 * four(s, at + 4)
+    u16::from_le_bytes(bytes(t, 0))
 }
 
 // The set command whose value has k bytes.
-fn set_of(f: Form, k: usize, field: u8, value: u64) -> Command
+fn set_of(f: Form, k: usize, field: u8, value: u64) -> Result<Command, Refusal>
     ensures { result ≡ set_of f k field value }
 {
     if form::is_too_wide(f, k, value) {
-        return Command::Bad(Refusal::SetTooWide);
+        return Err(Refusal::SetTooWide);
     }
-    Command::Set {
-        field: field,
-        value: value,
-    }
+    Ok(Command::Set { field, value })
 }
 
 // How many bytes of operands follow a command byte.
@@ -88,47 +69,44 @@ fn operand_bytes(c: u8) -> usize
     }
 }
 
-// The command with byte c, whose operands are all there.
-fn command_with(f: Form, c: u8, t: &[u8]) -> Command
-    requires { 1 + operand_bytes c ≤ length t.now }
-    ensures { result ≡ command_with f c (drop 1 t.now) }
+// The command with byte c, whose operands are at the front of t.
+fn command_with(f: Form, c: u8, t: &[u8]) -> Result<Command, Refusal>
+    requires { operand_bytes c ≤ length t.now }
+    ensures { result ≡ command_with f c t.now }
 {
     match c {
-        0x01 => set_of(f, 8, t[1], eight(t, 2)),
-        0x02 => Command::Level { level: t[1] },
-        0x03 => Command::Access {
-            word: four(t, 1) as u32,
-            operand: eight(t, 5),
-        },
-        0x04 => Command::Read {
-            offset: two(t, 1) as u16,
-        },
-        0x05 => Command::Write {
-            offset: two(t, 1) as u16,
-            value: eight(t, 3),
-        },
-        0x06 => Command::Tick { prohibited: t[1] },
-        0x07 => Command::Back,
-        0x08 => Command::Member { draw: t[1] },
-        0x11 => set_of(f, 1, t[1], zero_extend(t[2])),
-        0x12 => set_of(f, 4, t[1], four(t, 2)),
-        _ => Command::End,
+        0x01 => set_of(f, 8, t[0], u64::from_le_bytes(bytes(t, 1))),
+        0x02 => Ok(Command::Level { level: t[0] }),
+        0x03 => Ok(Command::Access {
+            word: u32::from_le_bytes(bytes(t, 0)),
+            operand: u64::from_le_bytes(bytes(t, 4)),
+        }),
+        0x04 => Ok(Command::Read { offset: offset(t) }),
+        0x05 => Ok(Command::Write {
+            offset: offset(t),
+            value: u64::from_le_bytes(bytes(t, 2)),
+        }),
+        0x06 => Ok(Command::Tick { prohibited: t[0] }),
+        0x07 => Ok(Command::Back),
+        0x08 => Ok(Command::Member { draw: t[0] }),
+        0x11 => set_of(f, 1, t[0], u64::from(t[1])),
+        0x12 => set_of(f, 4, t[0], u64::from(u32::from_le_bytes(bytes(t, 1)))),
+        _ => Ok(Command::End),
     }
 }
 
-// The command that the bytes, in a form, begin with.
-pub fn command_of(f: Form, t: &[u8]) -> Command
+// The command that the bytes, in a form, begin with, or why they begin with none.
+pub fn command_of(f: Form, t: &[u8]) -> Result<Command, Refusal>
     ensures { result ≡ command_of f t.now }
 {
-    if t.len() == 0 {
-        return Command::Bad(Refusal::Truncated);
+    let [c, operands @ ..] = t else {
+        return Err(Refusal::Truncated);
+    };
+    if form::is_unknown(f, *c) {
+        return Err(Refusal::UnknownCommand);
     }
-    let c = t[0];
-    if form::is_unknown(f, c) {
-        return Command::Bad(Refusal::UnknownCommand);
+    if operand_bytes(*c) <= operands.len() {
+        return command_with(f, *c, operands);
     }
-    if operand_bytes(c) <= t.len() - 1 {
-        return command_with(f, c, t);
-    }
-    Command::Bad(Refusal::Truncated)
+    Err(Refusal::Truncated)
 }

@@ -6,44 +6,19 @@ ghost use Rattle.console.specs.Input.{Fits};
 
 use std::io;
 use std::io::{Cursor, Print, Read, Write};
-use transcript::Output;
 
-// What came of reading an input: so many bytes, at the buffer's front, or a read that failed, and why.
-#[derive(Clone, Copy)]
-pub enum Input {
-    Bytes(usize),
-    Failed(io::Error),
-}
-
-// One read to the buffer's front. No byte comes where the input has ended.
-fn read_once(from: &mut impl Read, buffer: &mut [u8]) -> Input
-    ensures { Fits result buffer.new }
-{
-    match from.read(buffer) {
-        Ok(n) => Input::Bytes(n),
-        Err(why) => Input::Failed(why),
-    }
-}
-
-// Reads until the buffer is full or the input ends, unless a read fails.
-pub fn read(from: &mut impl Read, buffer: &mut [u8]) -> Input
+// Reads until the buffer is full or the input ends, unless a read fails: so many bytes, at the buffer's front.
+pub fn read(from: &mut impl Read, buffer: &mut [u8]) -> io::Result<usize>
     ensures { Fits result buffer.new }
 {
     let mut at: usize = 0;
     while at < buffer.len() {
-        match read_once(from, &mut buffer[at..]) {
-            Input::Failed(why) => {
-                return Input::Failed(why);
-            }
-            Input::Bytes(n) => {
-                if n == 0 {
-                    return Input::Bytes(at);
-                }
-                at += n;
-            }
+        match from.read(&mut buffer[at..])? {
+            0 => return Ok(at),
+            n => at += n,
         }
     }
-    Input::Bytes(at)
+    Ok(at)
 }
 
 // The words of a failure alone: behind those of the system its number stands in brackets.
@@ -71,21 +46,19 @@ pub fn fail(error: &impl Print, what: &[u8], why: io::Error) {
 
 // MODEL X7: writes the bytes to standard output and answers true, or says on standard error why not all could be written.
 pub fn write(output: &impl Print, error: &impl Print, bytes: &[u8]) -> bool {
-    match output.write_all(bytes) {
-        Ok(()) => true,
-        Err(why) => {
-            fail(error, b"standard output", why);
-            false
-        }
+    if let Err(why) = output.write_all(bytes) {
+        fail(error, b"standard output", why);
+        return false;
     }
+    true
 }
 
 // Runs the session and writes its output, as `write` does.
 fn print(output: &impl Print, error: &impl Print, input: &[u8]) -> bool {
     let mut out = [0u8; transcript::ROOM];
     match transcript::session(input, &mut out) {
-        Output::Bytes(k) => write(output, error, &out[..k]),
-        Output::Short => false,
+        Ok(k) => write(output, error, &out[..k]),
+        Err(_) => false,
     }
 }
 
@@ -99,8 +72,8 @@ pub fn run(
     buffer: &mut [u8],
 ) -> bool {
     match read(from, buffer) {
-        Input::Bytes(n) => print(output, error, &buffer[..n]),
-        Input::Failed(why) => {
+        Ok(n) => print(output, error, &buffer[..n]),
+        Err(why) => {
             fail(error, name, why);
             true
         }

@@ -7,6 +7,7 @@ use native.Mathlib.Omega.{arith}
 use borrow.Author.Tests.{ltb-false}
 use lib.Dec.{ltb}
 use lib.ListN.{length, length-append}
+use Rattle.std.specs.Prelude.{Result, Ok, Err}
 use Rattle.answer.specs.declared.Refusal.{Refusal}
 use Rattle.answer.specs.declared.Refusal.TheVariants.{SessionTooLong, LongFormTooLong}
 use Rattle.command.specs.declared.Command.{Command}
@@ -16,6 +17,7 @@ use Rattle.form.specs.Form.{head_of, form_of, body_of, longest}
 use Rattle.encode.specs.Encode.{bytes_of}
 use Rattle.conversion.specs.Conversion.{
   other_form,
+  read_bytes,
   bytes_in,
   session_in,
   bad_of,
@@ -52,7 +54,7 @@ converts s t e =
     g : Form
     g = other_form (form_of s)
 
-    cs : List Command
+    cs : List (Result Command Refusal)
     cs = commands_of s
 
     go :
@@ -82,18 +84,18 @@ pub never : {A : Type 0} {r : Refusal} → r ∷ [] ≡ [] → A
 never e = let z : ◌≡◌ {A = ℕ} 1 0 = ap length e in let n : ⊥ = omega arith in absurd n
 
 -- a command has a byte, unless reading it met a refusal
-command-some : (g : Form) (c : Command) → bad_of c ≡ [] → 1 ≤ length (bytes_of g c)
+command-some : (g : Form) (c : Result Command Refusal) → bad_of c ≡ [] → 1 ≤ length (read_bytes g c)
 unfolding bytes_of
-command-some g Command.End h = omega arith
-command-some g (Command.Set f v) h = omega arith
-command-some g (Command.Level l) h = omega arith
-command-some g (Command.Access w x) h = omega arith
-command-some g (Command.Read o) h = omega arith
-command-some g (Command.Write o x) h = omega arith
-command-some g (Command.Tick p) h = omega arith
-command-some g Command.Back h = omega arith
-command-some g (Command.Member d) h = omega arith
-command-some g (Command.Bad r) h = never h
+command-some g (Ok Command.End) h = omega arith
+command-some g (Ok (Command.Set f v)) h = omega arith
+command-some g (Ok (Command.Level l)) h = omega arith
+command-some g (Ok (Command.Access w x)) h = omega arith
+command-some g (Ok (Command.Read o)) h = omega arith
+command-some g (Ok (Command.Write o x)) h = omega arith
+command-some g (Ok (Command.Tick p)) h = omega arith
+command-some g (Ok Command.Back) h = omega arith
+command-some g (Ok (Command.Member d)) h = omega arith
+command-some g (Err r) h = never h
 
 commands-some : (g f : Form) (s : List ℕ) → bad_in (commands_in f s) ≡ [] → 1 ≤ length (bytes_in g (commands_in f s))
 unfolding bad_in bytes_in
@@ -103,8 +105,8 @@ commands-some g f s h =
     let good = (none_both (bad_of c) (bad_in found.0) (sym (ap bad_in found.1) ∙ h)).0 in
     omega (
       arith,
-      ap (λ (cs : List Command). length (bytes_in g cs)) found.1,
-      length-append (bytes_of g c) (bytes_in g found.0),
+      ap (λ (cs : List (Result Command Refusal)). length (bytes_in g cs)) found.1,
+      length-append (read_bytes g c) (bytes_in g found.0),
       command-some g c good,
     )
 

@@ -8,7 +8,8 @@ use native.Mathlib.Omega.{arith}
 use borrow.Author.Tests.{lt-ltb, le-ltb, ltb-false}
 use lib.Dec.{ltb}
 use lib.ListN.{length, take, drop, length-append}
-use lib.Seq.{sets-eq}
+use lib.Seq.{sets, sets-eq}
+use Rattle.std.specs.Prelude.{Result, Ok, Err}
 use Rattle.answer.specs.declared.Refusal.{Refusal}
 use Rattle.answer.specs.declared.Refusal.TheVariants.{SessionTooLong, LongFormTooLong}
 use Rattle.command.specs.declared.Command.{Command}
@@ -16,10 +17,9 @@ use Rattle.form.specs.declared.Form.{Form}
 use Rattle.command.specs.Command.{commands_in}
 use Rattle.form.specs.Form.{head_of, form_of, body_of, longest}
 use Rattle.form.proofs.Body.{body-length, body-here}
-use Rattle.text.specs.Written.{Written}
-use Rattle.text.proofs.Sets.{written_on}
-use Rattle.conversion.specs.declared.Converted.{Converted}
-use Rattle.conversion.specs.declared.Measured.{Measured}
+use Rattle.text.specs.declared.Writer.{Writer}
+use Rattle.text.specs.Wrote.{Wrote}
+use Rattle.conversion.specs.declared.NotConverted.{NotConverted}
 use Rattle.conversion.specs.Conversion.{
   other_form,
   bytes_in,
@@ -35,17 +35,17 @@ use Rattle.conversion.specs.Call.{room, first_or_bytes, measure_of, answer_of, h
 use Rattle.conversion.proofs.Shorter.{not-longer}
 
 -- an answer and a buffer as a conversion has them
-abbrev pub Gives : Conversion → Converted → List ℕ → List ℕ → Type 0
+abbrev pub Gives : Conversion → Result ℕ NotConverted → List ℕ → List ℕ → Type 0
 Gives c answer out out' = (answer ≡ answer_of c) × (out' ≡ held_of c out)
 
 -- commands in a form, by what was measured
-module _ (g : Form) (cs : List Command) where
-  pub measured-refused : {r : Refusal} → Measured.Refused r ≡ measure_of g cs → Conversion.Refused r ≡ converted g cs
+module _ (g : Form) (cs : List (Result Command Refusal)) where
+  pub measured-refused : {r : Refusal} → Err r ≡ measure_of g cs → Conversion.Refused r ≡ converted g cs
   unfolding converted
   measured-refused {r} e = go (bad_in cs) e
     where
       go :
-          (l : List Refusal) → Measured.Refused r ≡ first_or_bytes l (length (bytes_in g cs))
+          (l : List Refusal) → Err r ≡ first_or_bytes l (length (bytes_in g cs))
           → Conversion.Refused r
           ≡ first_or l
           (cond (is_too_long g (length (bytes_in g cs))) (Conversion.Refused LongFormTooLong)
@@ -53,18 +53,18 @@ module _ (g : Form) (cs : List Command) where
       go [] e = cc
       go (x ∷ l) e = cc
 
-  module _ {n : ℕ} (e : Measured.Bytes n ≡ measure_of g cs) where
+  module _ {n : ℕ} (e : Ok n ≡ measure_of g cs) where
     none-bad : bad_in cs ≡ []
     none-bad = go (bad_in cs) e
       where
-        go : (l : List Refusal) → Measured.Bytes n ≡ first_or_bytes l (length (bytes_in g cs)) → l ≡ []
+        go : (l : List Refusal) → Ok n ≡ first_or_bytes l (length (bytes_in g cs)) → l ≡ []
         go [] e = refl
         go (x ∷ l) e = cc
 
     pub measured-length : n ≡ length (bytes_in g cs)
     measured-length = go (bad_in cs) e
       where
-        go : (l : List Refusal) → Measured.Bytes n ≡ first_or_bytes l (length (bytes_in g cs)) → n ≡ length (bytes_in g cs)
+        go : (l : List Refusal) → Ok n ≡ first_or_bytes l (length (bytes_in g cs)) → n ≡ length (bytes_in g cs)
         go [] e = cc
         go (x ∷ l) e = cc
 
@@ -99,18 +99,21 @@ body-fits f s {g} o {n} =
 
 -- the session with these commands, written to the front of a buffer
 pub gives-session :
-    (g : Form) (cs : List Command) {c : Conversion} {out one out' : List ℕ} {k end : ℕ}
+    (g : Form) (cs : List (Result Command Refusal)) {c : Conversion} {out : List ℕ} {before after : Writer} {end : ℕ}
     → Conversion.Session (session_in g cs) ≡ c
     → length (head_of g) + length (bytes_in g cs) ≤ length out
-    → Written out 0 (head_of g) one k
-    → Written one k (bytes_in g cs) out' end
-    → Gives c (Converted.Bytes end) out out'
-gives-session g cs {out = out} e fits p q =
-    let w = written_on p q in
+    → before.out.now ≡ out
+    → before.at ≡ 0
+    → end ≡ after.at
+    → Wrote before (session_in g cs) after
+    → Gives c (Ok end) out after.out.now
+gives-session g cs {out = out} {before} {after} e fits same front place w =
     let t = session_in g cs in
-    let size : length t ≡ length (head_of g) + length (bytes_in g cs) = length-append (head_of g) (bytes_in g cs) in (
-      ap Converted.Bytes (w.behind ∙ zero-add (length t)) ∙ ap answer_of e,
-      w.stored
+    let size : length t ≡ length (head_of g) + length (bytes_in g cs) = length-append (head_of g) (bytes_in g cs) in
+    let behind : after.at ≡ length t = omega (arith, w.written.behind, front) in (
+      ap Ok (place ∙ behind) ∙ ap answer_of e,
+      w.written.stored
+          ∙ (λ i. sets (same i) (front i) t)
           ∙ sets-eq t out 0 (omega (arith, size, fits))
           ∙ ap (λ n. t ++ drop n out) (zero-add (length t))
           ∙ ap (λ (d : Conversion). held_of d out) e,
@@ -118,12 +121,13 @@ gives-session g cs {out = out} e fits p q =
 
 -- refused, and the buffer left alone
 pub gives-refusal :
-    {c : Conversion} {r : Refusal} (out : List ℕ) → Conversion.Refused r ≡ c → Gives c (Converted.Refused r) out out
+    {c : Conversion} {r : Refusal} (out : List ℕ) → Conversion.Refused r ≡ c → Gives c (Err (NotConverted.Refused r)) out out
 gives-refusal out e = (ap answer_of e, ap (λ (d : Conversion). held_of d out) e)
 
 -- what the same conversion gives, said otherwise
 pub gives-on :
-    {c d : Conversion} {answer : Converted} (out : List ℕ) {out' : List ℕ} → c ≡ d → answer ≡ answer_of c → out' ≡ held_of c out
+    {c d : Conversion} {answer : Result ℕ NotConverted} (out : List ℕ) {out' : List ℕ} → c ≡ d → answer ≡ answer_of c → out'
+    ≡ held_of c out
     → Gives d answer out out'
 gives-on out e p q = (p ∙ ap answer_of e, q ∙ ap (λ (x : Conversion). held_of x out) e)
 
@@ -143,19 +147,19 @@ module _ (s : List ℕ) where
       ∙ sym (rw (le-ltb longest (length (body_of s)) (omega (arith, body-length s e))))
 
   module _ (out : List ℕ) where
-    pub too_short : length out < room → (Converted.NoRoom ≡ result_of s out) × (out ≡ buffer_of s out)
+    pub too_short : length out < room → (Err NotConverted.NoRoom ≡ result_of s out) × (out ≡ buffer_of s out)
     unfolding result_of buffer_of
     too_short h = (sym (rw (lt-ltb (length out) room h)), sym (rw (lt-ltb (length out) room h)))
 
     -- the bytes that are said to hold a session are bytes of the buffer
     pub bytes_fit :
-        {out' : List ℕ} {k : ℕ} → Converted.Bytes k ≡ result_of s out → out' ≡ buffer_of s out → k ≤ length out'
+        {out' : List ℕ} {k : ℕ} → Ok k ≡ result_of s out → out' ≡ buffer_of s out → k ≤ length out'
     unfolding result_of buffer_of
     bytes_fit {out'} {k} r b = go (ltb (length out) room) (conversion_of s) r b
       where
         go :
             (c : Bool) (d : Conversion)
-            → Converted.Bytes k ≡ cond c Converted.NoRoom (answer_of d)
+            → Ok k ≡ cond c (Err NotConverted.NoRoom) (answer_of d)
             → out' ≡ cond c out (held_of d out)
             → k ≤ length out'
         go true d r b = let z : ◌≡◌ {A = ℕ} 0 1 = cc in let n : ⊥ = omega arith in absurd n
@@ -165,7 +169,7 @@ module _ (s : List ℕ) where
             omega (arith, ap length b, length-append t (drop (length t) out))
 
     pub enough :
-        {answer : Converted} {out' : List ℕ} → room ≤ length out → Gives (conversion_of s) answer out out'
+        {answer : Result ℕ NotConverted} {out' : List ℕ} → room ≤ length out → Gives (conversion_of s) answer out out'
         → (answer ≡ result_of s out) × (out' ≡ buffer_of s out)
     unfolding result_of buffer_of
     enough h w =

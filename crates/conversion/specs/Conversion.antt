@@ -1,5 +1,5 @@
 -- The other form of a session, or why there is none.
-use Rattle.std.specs.Prelude.{ℕ, Bool, false, cond, List, [], ◌∷◌, ◌++◌, ltb, length}
+use Rattle.std.specs.Prelude.{ℕ, Bool, false, cond, List, [], ◌∷◌, ◌++◌, ltb, length, Result, Ok, Err}
 use Rattle.answer.specs.declared.Refusal.{Refusal}
 use Rattle.answer.specs.declared.Refusal.TheVariants.{SessionTooLong, LongFormTooLong}
 use Rattle.command.specs.declared.Command.{Command}
@@ -13,30 +13,27 @@ abbrev pub other_form : Form → Form
 other_form Form.Long = Form.Short
 other_form Form.Short = Form.Long
 
+-- MODEL S1 and Z4: the bytes of what was read; what is no command has none
+abbrev pub read_bytes : Form → Result Command Refusal → List ℕ
+read_bytes f (Ok c) = bytes_of f c
+read_bytes f (Err r) = []
+
 -- MODEL Z4: commands in a form, one behind the other
-unfoldable pub bytes_in : Form → List Command → List ℕ
+unfoldable pub bytes_in : Form → List (Result Command Refusal) → List ℕ
 bytes_in f [] = []
-bytes_in f (c ∷ cs) = bytes_of f c ++ bytes_in f cs
+bytes_in f (c ∷ cs) = read_bytes f c ++ bytes_in f cs
 
 -- MODEL Z4: a session with these commands
-abbrev pub session_in : Form → List Command → List ℕ
+abbrev pub session_in : Form → List (Result Command Refusal) → List ℕ
 session_in f cs = head_of f ++ bytes_in f cs
 
 -- MODEL Z5: the refusal that is met in reading a command: 1, 2 or 19
-abbrev pub bad_of : Command → List Refusal
-bad_of Command.End = []
-bad_of (Command.Set f v) = []
-bad_of (Command.Level l) = []
-bad_of (Command.Access w x) = []
-bad_of (Command.Read o) = []
-bad_of (Command.Write o x) = []
-bad_of (Command.Tick p) = []
-bad_of Command.Back = []
-bad_of (Command.Member d) = []
-bad_of (Command.Bad r) = r ∷ []
+abbrev pub bad_of : Result Command Refusal → List Refusal
+bad_of (Ok c) = []
+bad_of (Err r) = r ∷ []
 
 -- MODEL Z5: all of these, in the order in which they are met
-unfoldable pub bad_in : List Command → List Refusal
+unfoldable pub bad_in : List (Result Command Refusal) → List Refusal
 bad_in [] = []
 bad_in (c ∷ cs) = bad_of c ++ bad_in cs
 
@@ -56,7 +53,7 @@ first_or [] otherwise = otherwise
 first_or (r ∷ rs) otherwise = Conversion.Refused r
 
 -- MODEL Z4 and Z5: these commands in a form, unless reading one met a refusal, or they are too long
-unfoldable pub converted : Form → List Command → Conversion
+unfoldable pub converted : Form → List (Result Command Refusal) → Conversion
 converted f cs =
     first_or (bad_in cs)
     (cond (is_too_long f (length (bytes_in f cs))) (Conversion.Refused LongFormTooLong) (Conversion.Session (session_in f cs)))

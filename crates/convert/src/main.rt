@@ -3,13 +3,12 @@
 #![tactic(auto)]
 
 use answer::Refusal;
-use console::Input;
-use conversion::Converted;
+use conversion::NotConverted;
 use std::io::Print;
 
 // Says on standard error that the session is refused.
 fn refuse(error: &impl Print, r: Refusal) {
-    let number = answer::refusal_number(r);
+    let number = u8::from(r);
     let _ = println!(error; "refused {number}");
 }
 
@@ -17,12 +16,12 @@ fn refuse(error: &impl Print, r: Refusal) {
 fn give(output: &impl Print, error: &impl Print, input: &[u8]) {
     let mut out = [0u8; conversion::ROOM];
     match conversion::convert(input, &mut out) {
-        Converted::Bytes(n) => {
+        Ok(n) => {
             console::write(output, error, &out[..n]);
         }
-        Converted::Refused(r) => refuse(error, r),
+        Err(NotConverted::Refused(r)) => refuse(error, r),
         // the buffer has room for any session
-        Converted::NoRoom => {}
+        Err(NotConverted::NoRoom) => {}
     }
 }
 
@@ -30,7 +29,7 @@ fn main(rt: HostRuntime) {
     let mut input = [0u8; 4098];
     let mut from = rt.stdin();
     match console::read(&mut from, &mut input) {
-        Input::Bytes(n) => give(&rt.stdout(), &rt.stderr(), &input[..n]),
-        Input::Failed(why) => console::fail(&rt.stderr(), b"standard input", why),
+        Ok(n) => give(&rt.stdout(), &rt.stderr(), &input[..n]),
+        Err(why) => console::fail(&rt.stderr(), b"standard input", why),
     }
 }

@@ -1,6 +1,7 @@
 -- The overflow flags in the loop of PMSWINC: a turn sets the flag of its counter where that overflows, and after the last turn
 -- the flags are those of the definition.
-use Rattle.std.proofs.Common.{◌≡◌, ℕ, ◌+◌, ◌-◌, ◌/◌, ◌%◌, ◌^◌, ◌≤◌, Bool, true, false, ◌&&◌, ◌||◌, eqb, ltb, List, length, get_or, sym, refl, ap, ◌∙◌, arith, ltb-false, ltb-true, le-ltb, lt-ltb, eq-eqb, eqb-true}
+use Rattle.std.proofs.Common.{◌≡◌, ℕ, ◌+◌, ◌-◌, ◌/◌, ◌%◌, ◌^◌, ◌≤◌, Bool, true, false, ◌&&◌, ◌||◌, eqb, ltb, List, length, get_or}
+use Rattle.std.proofs.Common.{sym, refl, ap, ◌∙◌, arith, ltb-false, ltb-true, le-ltb, lt-ltb, eq-eqb, eqb-true}
 use mathlib.Core.Bool.{and-false, or-false}
 use borrow.Author.Tests.{eqb-false}
 use lib.ListN.{get_or-eq_default}
@@ -80,19 +81,19 @@ module _ (s : Settings) (e : List ℕ) (mask : ℕ) (c : List ℕ) (ovs : ℕ) w
   pub flags-start : ovs % 2 ^ 33 ≡ flagged 0
   flags-start = sym (raised-none _ ovs (λ m h. ap (λ b. b && carried m) (le-ltb m 0 (omega arith))))
 
-  -- one turn, from the bits that are left, the counter's event number and what it holds
+  -- one turn, from the bits that are left, whether the counter takes an increment, and what it holds
   pub flag-turn :
-      (i rest event y flags r : ℕ)
+      (i rest : ℕ) (on : Bool) (y flags r : ℕ)
       → flags ≡ flagged i
       → rest ≡ mask / 2 ^ i
-      → event ≡ get_or e i 0
+      → on ≡ eqb (rest % 2) 1 && eqb (get_or e i 0) 0
       → y ≡ get_or c i 0
-      → r ≡ raised (λ m. eqb m i && (((eqb (rest % 2) 1 && eqb event 0) && carries (overflow_width s i) y) && ltb i 31)) flags
+      → r ≡ raised (λ m. eqb m i && ((on && carries (overflow_width s i) y) && ltb i 31)) flags
       → r ≡ flagged (i + 1)
-  flag-turn i rest event y flags r p q n v h =
+  flag-turn i rest on y flags r p q n v h =
+      let takes : on ≡ added e mask i = n ∙ ap (λ b. eqb (b % 2) 1 && eqb (get_or e i 0) 0) q in
       h
-      ∙ (λ j.
-      raised (λ m. eqb m i && (((eqb (q j % 2) 1 && eqb (n j) 0) && carries (overflow_width s i) (v j)) && ltb i 31)) (p j))
+      ∙ (λ j. raised (λ m. eqb m i && ((takes j && carries (overflow_width s i) (v j)) && ltb i 31)) (p j))
       ∙ raised-ext _ (flagged i) (λ m. eqb m i && carried i)
       (λ m l. ap (λ b. eqb m i && b) (last-first (added e mask i) (carries _ (get_or c i 0)) (ltb i 31)))
       ∙ raised-on _ ovs _

@@ -1,8 +1,8 @@
--- One less, over the width: it takes one more back, and is a 64-bit difference that wraps, cut to the width.
-use Rattle.std.proofs.Common.{◌≡◌, ℕ, ◌+◌, ◌-◌, ◌%◌, ◌^◌, ◌<◌, ◌≤◌, sym, ap, ◌∙◌, mod-eq_of_lt, arith, pow_pos}
+-- One less, over the width: it takes one more back, and is the largest 64-bit number more, cut to the width.
+use Rattle.std.proofs.Common.{◌≡◌, ℕ, ◌+◌, ◌-◌, ◌%◌, ◌^◌, ◌<◌, Bool, true, false, cond, refl, ap, ◌∙◌, mod-eq_of_lt, arith}
+use Rattle.std.proofs.Common.{pow_pos}
 use native.Mathlib.Nat.{mod-add-mod, add-mod_right}
-use Rattle.bits.proofs.Single.{mod-mod}
-use Rattle.rules.specs.Overflow.{plus_one}
+use Rattle.rules.specs.Overflow.{width, plus_one}
 use Rattle.counters.specs.Decremented.{minus_one}
 
 -- one less than what is left of z + 1 in k bits is what is left of z
@@ -15,8 +15,10 @@ less-one-more k z =
 pub less-more : (k y : ℕ) → y < 2 ^ k → minus_one k (plus_one k y) ≡ y
 less-more k y h = less-one-more k y ∙ mod-eq_of_lt h
 
--- z is y less 1, wrapping at 64 bits
-pub one_less : (k y z : ℕ) → k ≤ 64 → (z + 1) % 2 ^ 64 ≡ y → z % 2 ^ k ≡ minus_one k y
-one_less k y z h e =
-    let cut : plus_one k z ≡ y % 2 ^ k = sym (mod-mod (z + 1) 64 k h) ∙ ap (λ n. n % 2 ^ k) e in
-    sym (less-one-more k z) ∙ ap (minus_one k) cut ∙ mod-add-mod y (2 ^ k) (2 ^ k - 1)
+-- the largest 64-bit number more is 1 less, in a width of 32 or 64 bits
+pub more_less :
+    (p5 b : Bool) (y : ℕ)
+    → cond b ((y + 18446744073709551615) % 2 ^ width p5) y ≡ cond b (minus_one (width p5) y) y
+more_less p5 false y = refl
+more_less true true y = refl
+more_less false true y = omega arith

@@ -1,6 +1,7 @@
 -- The loops of PMSWINC and of taking it back: a turn does to the list of counters what the next step of the sweep does, and the
 -- mask's remaining bits say when the rest of the counters stay.
-use Rattle.std.proofs.Common.{◌≡◌, ℕ, ◌+◌, ◌*◌, ◌/◌, ◌%◌, ◌^◌, ◌<◌, ◌≤◌, false, cond, ◌&&◌, eqb, List, length, get_or, set, sym, ap, ◌∙◌, ap₂, div-lt_iff_lt-mul, add-one, arith, pow_pos, shr-shr}
+use Rattle.std.proofs.Common.{◌≡◌, ℕ, ◌+◌, ◌*◌, ◌/◌, ◌%◌, ◌^◌, ◌<◌, ◌≤◌, Bool, false, cond, ◌&&◌, eqb, List, length, get_or, set}
+use Rattle.std.proofs.Common.{sym, ap, ◌∙◌, div-lt_iff_lt-mul, add-one, arith, pow_pos, shr-shr}
 use Rattle.bits.proofs.Single.{bit_past}
 use Rattle.bits.specs.Bits.{bit}
 use Rattle.rules.specs.Apply.{map_from, added}
@@ -22,15 +23,15 @@ module _
     (c : List ℕ) where
   -- one turn, from the bits that are left and the counter's event number
   pub turn :
-      (i rest event : ℕ) (next : List ℕ) (r : ℕ)
+      (i rest : ℕ) (on : Bool) (next : List ℕ) (r : ℕ)
       → next ≡ sweep f i c
       → rest ≡ mask / 2 ^ i
-      → event ≡ get_or e i 0
-      → r ≡ cond (eqb (rest % 2) 1 && eqb event 0) (g (get_or next i 0)) (get_or next i 0)
+      → on ≡ eqb (rest % 2) 1 && eqb (get_or e i 0) 0
+      → r ≡ cond on (g (get_or next i 0)) (get_or next i 0)
       → set next i r ≡ sweep f (i + 1) c
-  turn i rest event next r p q n h =
+  turn i rest on next r p q n h =
       let y = get_or next i 0 in
-      ap (set next i) (h ∙ ap₂ (λ b k. cond (eqb (b % 2) 1 && eqb k 0) (g y) y) q n ∙ sym (is i y))
+      ap (set next i) (h ∙ ap (λ b. cond b (g y) y) (n ∙ ap (λ b. eqb (b % 2) 1 && eqb (get_or e i 0) 0) q) ∙ sym (is i y))
       ∙ ap (λ l. set l i (f i (get_or l i 0))) p
       ∙ sym (ap (λ n. sweep f n c) (add-one i))
 

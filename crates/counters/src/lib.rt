@@ -2,11 +2,11 @@
 // counter has 64 bits with p5, else 32.
 #![tactic(auto)]
 
-ghost use Rattle.std.specs.Prelude.{◌≡◌, ◌%◌, ◌^◌, ◌&&◌, set, if◌then◌else◌, ◌==◌, nat_lt, slice_index, slice_set};
+ghost use Rattle.std.specs.Prelude.{◌≡◌, ◌+◌, ◌%◌, ◌^◌, ◌&&◌, set, if◌then◌else◌, ◌==◌, nat_lt, slice_index, slice_set};
 ghost use Rattle.rules.specs.Ranges.{long_bit};
-ghost use Rattle.rules.specs.Overflow.{width, plus_one, carries, overflow_width, raised};
+ghost use Rattle.rules.specs.Overflow.{width, carries, overflow_width, raised};
 ghost use Rattle.rules.specs.Apply.{map_from, incremented, overflows};
-ghost use Rattle.counters.specs.Decremented.{minus_one, decremented};
+ghost use Rattle.counters.specs.Decremented.{decremented};
 
 use machine::Settings;
 
@@ -14,18 +14,14 @@ use machine::Settings;
 pub fn read(counters: &[u64], m: u64) -> u64
     ensures { result ≡ slice_index counters.now m }
 {
-    let at = m as usize;
-    if at < counters.len() { counters[at] } else { 0 }
+    counters.get(m as usize).copied().unwrap_or(0)
 }
 
 // The bits of x that a counter holds.
 fn held(p5: bool, x: u64) -> u64
     ensures { result ≡ x % 2 ^ width p5 }
 {
-    if p5 {
-        return x;
-    }
-    x % 0x100000000
+    if p5 { x } else { x % 0x100000000 }
 }
 
 // A store to counter m.
@@ -38,21 +34,18 @@ pub fn store(counters: &mut [u64], p5: bool, m: u64, x: u64)
     }
 }
 
-// The event number of counter i, and 0 past the last.
-fn event(events: &[u16], i: usize) -> u16
-    ensures { result ≡ slice_index events.now i }
+// Counter i takes an increment: the lowest of the bits that are left is 1, and its event number, 0 past the last, is 0.
+fn taken(rest: u64, events: &[u16], i: usize) -> bool
+    ensures { result ≡ (rest % 2 == 1) && (slice_index events.now i == 0) }
 {
-    if i < events.len() { events[i] } else { 0 }
+    (rest % 2 == 1) & (events.get(i).copied().unwrap_or(0) == 0)
 }
 
-// A counter after PMSWINC: one more where it takes the increment, wrapping at the counter's width.
-fn incremented(p5: bool, on: bool, y: u64) -> u64
-    ensures { result ≡ (if on then plus_one (width p5) y else y) }
+// A counter that takes an increment, or one taken back: `by` more, wrapping at the counter's width. Every other stays.
+fn stepped(p5: bool, on: bool, by: u64, y: u64) -> u64
+    ensures { result ≡ (if on then (y + by) % 2 ^ width p5 else y) }
 {
-    if on {
-        return held(p5, std::num::wrapping_add_u64(y, 1));
-    }
-    y
+    if on { held(p5, y.wrapping_add(by)) } else { y }
 }
 
 // Event counter i overflows at 64 bits, by its long bit, and not at 32.
@@ -70,9 +63,10 @@ fn carries(long: bool, y: u64) -> bool
     ensures { result ≡ carries (width long) y }
 {
     if long {
-        return y == 0xFFFFFFFFFFFFFFFF;
+        y == u64::MAX
+    } else {
+        y % 0x100000000 == 0xFFFFFFFF
     }
-    y % 0x100000000 == 0xFFFFFFFF
 }
 
 // The overflow flags with that of event counter i set, where it overflows.
@@ -104,29 +98,17 @@ pub fn increment(counters: &mut [u64], events: &[u16], s: Settings, mask: u64, o
 {
     let mut flags = ovs % 0x200000000;
     let mut rest = mask;
-    let mut i: usize = 0;
-    while i < counters.len() {
+    for i in 0..counters.len() {
         if rest == 0 {
-            return flags;
+            break;
         }
-        let on = (rest % 2 == 1) & (event(events, i) == 0);
         let y = counters[i];
-        counters[i] = incremented(s.features.p5, on, y);
+        let on = taken(rest, events, i);
+        counters[i] = stepped(s.features.p5, on, 1, y);
         flags = flagged(flags, s, i, on, y);
-        rest = rest / 2;
-        i += 1;
+        rest /= 2;
     }
     flags
-}
-
-// A counter before PMSWINC, where it holds y after it: one less where it took the increment, wrapping at the counter's width.
-fn decremented(p5: bool, on: bool, y: u64) -> u64
-    ensures { result ≡ (if on then minus_one (width p5) y else y) }
-{
-    if on {
-        return held(p5, std::num::wrapping_sub_u64(y, 1));
-    }
-    y
 }
 
 // The software increment taken back: 1 less in each counter that took one.
@@ -134,15 +116,12 @@ pub fn decrement(counters: &mut [u64], events: &[u16], p5: bool, mask: u64)
     ensures { counters.new ≡ map_from (decremented p5 events.now mask) 0 counters.old }
 {
     let mut rest = mask;
-    let mut i: usize = 0;
-    while i < counters.len() {
+    for i in 0..counters.len() {
         if rest == 0 {
-            return;
+            break;
         }
-        let took = (rest % 2 == 1) & (event(events, i) == 0);
-        let y = counters[i];
-        counters[i] = decremented(p5, took, y);
-        rest = rest / 2;
-        i += 1;
+        let took = taken(rest, events, i);
+        counters[i] = stepped(p5, took, u64::MAX, counters[i]);
+        rest /= 2;
     }
 }

@@ -8,7 +8,7 @@ ghost use Rattle.rules.specs.Step.{undefined_at_once, decide_register, decide_de
 
 use answer::{Answer, Trap};
 use rules::{Decision, Instruction, Register, Stop};
-use state::{Verdict, View};
+use state::View;
 
 // The access is undefined whatever the controls say.
 fn undefined_at_once(v: View, r: Register, read: bool) -> bool
@@ -25,6 +25,7 @@ fn undefined_at_once(v: View, r: Register, read: bool) -> bool
 }
 
 // What the order of traps says of a register and a direction.
+#[tactic(auto, unfolding(rules::specs::Traps::stop_of, rules::specs::Traps::rules_of))]
 fn stop_of(v: View, r: Register, read: bool) -> Stop
     ensures { result ≡ stop_of v r read }
 {
@@ -37,10 +38,12 @@ fn stop_of(v: View, r: Register, read: bool) -> Stop
     }
 }
 
-// The decision about a register of a consistent record.
-fn decide_register(v: View, r: Register, i: Instruction, x: u64) -> Decision
-    ensures { result ≡ decide_register v r i x }
+// The decision about an instruction of a consistent record.
+#[tactic(auto, unfolding(rules::specs::Step::decide_register))]
+fn decide_register(v: View, i: Instruction, x: u64) -> Decision
+    ensures { result ≡ decide_register v i.register i x }
 {
+    let r = i.register;
     if undefined_at_once(v, r, i.read) {
         return Decision::Says(Answer::Undef);
     }
@@ -48,8 +51,8 @@ fn decide_register(v: View, r: Register, i: Instruction, x: u64) -> Decision
         Stop::Pass => permitted::permitted(v, r, i, x),
         Stop::Undef => Decision::Says(Answer::Undef),
         Stop::Trap(target, cause) => Decision::Says(Answer::Trap(Trap {
-            target: target,
-            cause: cause,
+            target,
+            cause,
             syndrome: i.syndrome,
         })),
     }
@@ -60,15 +63,13 @@ pub fn decide_decoded(v: View, i: Instruction, x: u64) -> Decision
     ensures { result ≡ decide_decoded v i x }
 {
     match state::verdict_of(v) {
-        Verdict::Refused(r) => Decision::Says(Answer::Refused(r)),
-        Verdict::Consistent => {
-            let r = i.register;
-            decide_register(v, r, i, x)
-        }
+        Ok(()) => decide_register(v, i, x),
+        Err(r) => Decision::Says(Answer::Refused(r)),
     }
 }
 
 // The decision about the access with word w and operand x.
+#[tactic(auto, unfolding(rules::specs::Step::decide))]
 pub fn decide(v: View, w: u32, x: u64) -> Decision
     ensures { result ≡ decide v w x }
 {

@@ -14,7 +14,7 @@ value_bytes Form.Short v = narrowest v
 abbrev pub set_byte : ℕ → ℕ
 set_byte k = cond (eqb k 1) 0x11 (cond (eqb k 4) 0x12 0x01)
 
--- MODEL S1, S7 and Z2: the bytes of a command; what is none has none
+-- MODEL S1, S7 and Z2: the bytes of a command
 unfoldable pub bytes_of : Form → Command → List ℕ
 bytes_of f Command.End = 0x00 ∷ []
 bytes_of f (Command.Set a v) =
@@ -27,4 +27,3 @@ bytes_of f (Command.Write o x) = 0x05 ∷ (little_bytes 2 o ++ little_bytes 8 x)
 bytes_of f (Command.Tick p) = 0x06 ∷ little_bytes 1 p
 bytes_of f Command.Back = 0x07 ∷ []
 bytes_of f (Command.Member d) = 0x08 ∷ little_bytes 1 d
-bytes_of f (Command.Bad r) = []

@@ -1,3 +1,2 @@
 -- The definitions of the crate `encode`.
 pub mod Encode
-pub mod Layout

@@ -45,7 +45,8 @@ overflow_examples =
     1
     (swinc 0x10)
     ((0x64, 0x100000000) ∷ (0x37, 0x10) ∷ [])
-    ∷ changes (counters_on ((0x09, 0) ∷ (0x10, 0) ∷ (0x35, 1) ∷ (0x64, 0xFFFFFFFF) ∷ [])) 1 (swinc 0x10) ((0x64, 0x100000000) ∷ [])
+    ∷ changes (counters_on ((0x09, 0) ∷ (0x10, 0) ∷ (0x35, 1) ∷ (0x64, 0xFFFFFFFF) ∷ [])) 1 (swinc 0x10) ((0x64, 0x100000000)
+    ∷ [])
     -- MODEL G13: each of several counters by itself, and flags that are set stay
     ∷ changes (counters_on ((0x37, 0x100000042) ∷ (0x60, 0xFFFFFFFF) ∷ (0x61, 7) ∷ (0x62, 0xFFFFFFFF) ∷ []))
     1

@@ -1,4 +1,3 @@
 -- What takes commands back, which commands a match leaves, and that the code's calls do what the definition says.
 pub mod Taken
-pub mod Variants
 pub mod Ran

@@ -2,6 +2,8 @@
 use Prim.Native.Nat.{ℕ}
 use mathlib.Core.List.{List}
 use mathlib.Core.Path.{◌≡◌, sym, ◌∙◌, ap}
+use Rattle.std.specs.Prelude.{Result, Ok}
+use Rattle.answer.specs.declared.Refusal.{Refusal}
 use Rattle.access.specs.declared.Said.{Said}
 use Rattle.access.specs.InParts.{InParts}
 use Rattle.access.proofs.Decoded.{by_word, whole-by-word, parts-by-word}
@@ -36,10 +38,10 @@ access-listed i x r typed l words words' tag e =
     (step-taken-back r typed i x) (e ∙ (λ k. noted (l.answer k) (undo_of (l.change k) r) tag (entries words)))
 
 -- the answer, the record and the words of the undo list after the command c on the record m, before which the words were `words`
-module _ (c : Command) (m : Machine) (words : List ℕ) (a : Answer) (next : Machine) (words' : List ℕ) where
+module _ (c : Result Command Refusal) (m : Machine) (words : List ℕ) (a : Answer) (next : Machine) (words' : List ℕ) where
   -- of an access, by what was said and the counters that were lent
   pub access-ran :
-      (w x : ℕ) (i : Instruction) (said : Said) (counters left : List ℕ) → c ≡ Command.Access w x → i ≡ decode w
+      (w x : ℕ) (i : Instruction) (said : Said) (counters left : List ℕ) → c ≡ Ok (Command.Access w x) → i ≡ decode w
       → Accessed i x m said counters words left
       → a ≡ said.answer
       → next ≡ machine_of m.level m.settings m.events counters said.values
@@ -59,7 +61,7 @@ module _ (c : Command) (m : Machine) (words : List ℕ) (a : Answer) (next : Mac
   pub access-kept :
       (w x : ℕ) (i : Instruction) (said : Said) (counters left : List ℕ) → i ≡ decode w
       → Accessed i x m said counters words left
-      → entries left ≡ entries_after (Command.Access w x) m said.answer (entries words)
+      → entries left ≡ entries_after (Ok (Command.Access w x)) m said.answer (entries words)
   unfolding entries_after
   access-kept w x i said counters left e l =
       l.kept
@@ -67,7 +69,8 @@ module _ (c : Command) (m : Machine) (words : List ℕ) (a : Answer) (next : Mac
 
   -- of another command, by its outcome
   pub other-ran :
-      (d : Command) (o : Outcome) (left : List ℕ) → c ≡ d → response_by o left ≡ obey d (history_by m words) → a ≡ o.answer
+      (d : Result Command Refusal) (o : Outcome) (left : List ℕ) → c ≡ d → response_by o left ≡ obey d (history_by m words) → a
+      ≡ o.answer
       → next ≡ o.machine → words' ≡ left
       → response_by (says a next) words' ≡ obey c (history_by m words)
   other-ran d o left p e q r t =

@@ -29,8 +29,8 @@ use Rattle.rules.specs.Apply.{apply}
 use Rattle.rules.specs.External.{effect_of, reach, write_of, tick_of, member_of, unless_refused_by, judge, enact}
 use Rattle.rules.specs.External.{read_of, external_read, external_write, tick, member}
 use Rattle.rules.specs.Step.{decide_decoded, step_decoded}
-use Rattle.state.specs.declared.Verdict.{Verdict}
-use Rattle.state.specs.declared.Verdict.TheVariants.{Consistent, Refused}
+use Rattle.std.specs.Prelude.{Result, ⊤, Ok, Err}
+use Rattle.answer.specs.declared.Refusal.{Refusal}
 use Rattle.state.specs.State.{view_of, verdict_of}
 use Rattle.store.specs.Store.{store, store_settings, store_features, store_mdcr2, store_mdcr3, store_pmuacr, store_sampling}
 use Rattle.undo.specs.Undo.{held, undo_of, undone}
@@ -47,10 +47,10 @@ module _ (r : Machine) where
 
   -- an effect, unless the record is refused
   verdict-back :
-      (f x : ℕ) (v : Verdict) (e : Effect) → Back f x (enact (E'.Says Answer.Ok) r) → Back f x (enact e r)
+      (f x : ℕ) (v : Result ⊤ Refusal) (e : Effect) → Back f x (enact (E'.Says Answer.Ok) r) → Back f x (enact e r)
       → Back f x (enact (unless_refused_by v e) r)
-  verdict-back f x Consistent e s b = b
-  verdict-back f x (Refused n) e s b = s
+  verdict-back f x (Ok _) e s b = b
+  verdict-back f x (Err n) e s b = s
 
   same_back : Back 0x34 r.settings.cnten (enact (E'.Says Answer.Ok) r)
   unfolding undone store_settings store_features store_mdcr2 store_mdcr3 store_pmuacr store_sampling
@@ -136,9 +136,9 @@ module _ (r : Machine) where
 
   -- an external read changes nothing
   verdict-same :
-      (v : Verdict) (e : Effect) → (enact e r).machine ≡ r → (enact (unless_refused_by v e) r).machine ≡ r
-  verdict-same Consistent e s = s
-  verdict-same (Refused n) e s = refl
+      (v : Result ⊤ Refusal) (e : Effect) → (enact e r).machine ≡ r → (enact (unless_refused_by v e) r).machine ≡ r
+  verdict-same (Ok _) e s = s
+  verdict-same (Err n) e s = refl
 
   read-of-same : (t : Reach) → (enact (read_of t r.settings) r).machine ≡ r
   read-of-same R'.Other = refl

@@ -1,5 +1,6 @@
 -- What each command does to the record and to the list of earlier records.
-use Rattle.std.specs.Prelude.{ℕ, cond, List, [], ◌∷◌, ltb, eqb}
+use Rattle.std.specs.Prelude.{ℕ, cond, List, [], ◌∷◌, ltb, eqb, Result, Ok, Err}
+use Rattle.answer.specs.declared.Refusal.{Refusal}
 use Rattle.answer.specs.declared.Answer.{Answer}
 use Rattle.answer.specs.declared.Refusal.TheVariants.{ValueTooLarge}
 use Rattle.command.specs.declared.Command.{Command}
@@ -16,17 +17,17 @@ unfoldable pub tick_command : ℕ → Machine → Outcome
 tick_command p m = cond (ltb 1 p) (refused ValueTooLarge m) (tick (eqb p 1) m)
 
 -- MODEL S1 and H1 to H6: what a command answers and does
-unfoldable pub obey : Command → History → Response
-obey Command.End k = keeping (says Answer.End k.machine) k
-obey (Command.Set f v) k = emptying (set f v k.machine) k
-obey (Command.Level l) k = listing (set_level l k.machine) k
-obey (Command.Access w x) k = listing (step w x k.machine) k
-obey (Command.Read o) k = keeping (external_read o k.machine) k
-obey (Command.Write o x) k = listing (external_write o x k.machine) k
-obey (Command.Tick p) k = listing (tick_command p k.machine) k
-obey Command.Back k = back_from k.machine k.earlier
-obey (Command.Member d) k = listing (member d k.machine) k
-obey (Command.Bad n) k = keeping (refused n k.machine) k
+unfoldable pub obey : Result Command Refusal → History → Response
+obey (Ok Command.End) k = keeping (says Answer.End k.machine) k
+obey (Ok (Command.Set f v)) k = emptying (set f v k.machine) k
+obey (Ok (Command.Level l)) k = listing (set_level l k.machine) k
+obey (Ok (Command.Access w x)) k = listing (step w x k.machine) k
+obey (Ok (Command.Read o)) k = keeping (external_read o k.machine) k
+obey (Ok (Command.Write o x)) k = listing (external_write o x k.machine) k
+obey (Ok (Command.Tick p)) k = listing (tick_command p k.machine) k
+obey (Ok Command.Back) k = back_from k.machine k.earlier
+obey (Ok (Command.Member d)) k = listing (member d k.machine) k
+obey (Err n) k = keeping (refused n k.machine) k
 
 -- MODEL S2: what commands answer, and record and list after them
 pub record Performed : Type 0 where
@@ -34,7 +35,7 @@ pub record Performed : Type 0 where
   pub left : History
 
 -- MODEL S2: commands run one after another, each on the record and the list that the one before it left
-unfoldable pub perform : List Command → History → Performed
+unfoldable pub perform : List (Result Command Refusal) → History → Performed
 perform [] k = record { answers = []; left = k }
 perform (c ∷ cs) k =
     let o = obey c k in

@@ -59,8 +59,8 @@ fn tick_command(p: u8, r: Machine) -> Outcome
     external_apply::tick(p == 1, r)
 }
 
-// What a command other than an access answers and does to the record and the list.
-pub fn other(c: Command, r: Machine, list: &mut [u64; 194]) -> Outcome
+// What a command other than an access, or the refusal that was met in reading one, answers and does to the record and the list.
+pub fn other(c: Result<Command, Refusal>, r: Machine, list: &mut [u64; 194]) -> Outcome
     requires { is_access c ≡ false }
     ensures { Executed c r result list.old list.new }
 {
@@ -70,36 +70,36 @@ pub fn other(c: Command, r: Machine, list: &mut [u64; 194]) -> Outcome
     let pmsicr = r.values.pmsicr;
     let cnten = r.settings.cnten;
     match c {
-        Command::Set { field, value } => {
+        Ok(Command::End) => Outcome {
+            answer: Answer::End,
+            machine: r,
+        },
+        Ok(Command::Set { field, value }) => {
             let o = fields::set::set(field, value, r);
-            let a = o.answer;
-            undo_list::forget(a, list);
+            undo_list::forget(o.answer, list);
             o
         }
-        Command::Level { level } => {
+        Ok(Command::Level { level }) => {
             let u = undo::kept(undo::NOTHING, 0, at, ovs);
             undo_list::listed(fields::set::set_level(level, r), u, list)
         }
-        Command::Read { offset } => external_apply::read(offset, r),
-        Command::Write { offset, value } => {
+        Ok(Command::Read { offset }) => external_apply::read(offset, r),
+        Ok(Command::Write { offset, value }) => {
             let u = undo::kept(0x34, cnten, at, ovs);
             undo_list::listed(external_apply::write(offset, value, r), u, list)
         }
-        Command::Tick { prohibited } => {
+        Ok(Command::Tick { prohibited }) => {
             let u = undo::kept(0x7F, instructions, at, ovs);
             undo_list::listed(tick_command(prohibited, r), u, list)
         }
-        Command::Back => undo_list::back(r, list),
-        Command::Member { draw } => {
+        Ok(Command::Back) => undo_list::back(r, list),
+        Ok(Command::Member { draw }) => {
             let u = undo::kept(0x8C, pmsicr, at, ovs);
             undo_list::listed(external_apply::member(draw, r), u, list)
         }
-        Command::Bad(n) => Outcome {
+        Ok(Command::Access { .. }) => unreachable!(),
+        Err(n) => Outcome {
             answer: Answer::Refused(n),
-            machine: r,
-        },
-        _ => Outcome {
-            answer: Answer::End,
             machine: r,
         },
     }

@@ -31,75 +31,69 @@ fn ovs_counted(y: u64, ovs: u64) -> u64
 fn sample(draw: u8, s: Settings, v: Values) -> Told
     ensures { Enacted (Effect.Sample draw) s v result }
 {
-    let mut values = v;
     let m = pmsicr::counted(
         s.features.ernd,
         s.sampling.rnd,
         s.sampling.reload,
         draw as u64,
-        values.pmsicr,
+        v.pmsicr,
     );
-    values.pmsicr = m.pmsicr;
-    if m.selected {
-        return Told {
-            answer: Answer::Sampled,
-            cnten: s.cnten,
-            values: values,
-        };
-    }
     Told {
-        answer: Answer::Ok,
+        answer: if m.selected {
+            Answer::Sampled
+        } else {
+            Answer::Ok
+        },
         cnten: s.cnten,
-        values: values,
+        values: Values {
+            pmsicr: m.pmsicr,
+            ..v
+        },
     }
 }
 
 // What an effect answers and does.
+#[tactic(auto, unfolding(store::specs::Store::store, store::specs::Store::store_settings))]
 fn enact(e: Effect, s: Settings, v: Values) -> Told
     ensures { Enacted e s v result }
 {
-    let mut values = v;
+    let unchanged = Told {
+        answer: Answer::Ok,
+        cnten: s.cnten,
+        values: v,
+    };
     match e {
-        Effect::Says(a) => Told {
-            answer: a,
-            cnten: s.cnten,
-            values: v,
+        Effect::Says(answer) => Told {
+            answer,
+            ..unchanged
         },
-        Effect::Enables(x) => Told {
-            answer: Answer::Ok,
-            cnten: x,
-            values: v,
-        },
+        Effect::Enables(cnten) => Told { cnten, ..unchanged },
         Effect::ReadOvs => Told {
             answer: Answer::Value(flags::shown_of(false, s, v.ovs)),
-            cnten: s.cnten,
-            values: v,
+            ..unchanged
         },
-        Effect::ClearOvs { mask } => {
-            values.ovs = flags::lowered(mask, v.ovs);
-            Told {
-                answer: Answer::Ok,
-                cnten: s.cnten,
-                values: values,
-            }
-        }
-        Effect::SetOvs { mask } => {
-            values.ovs = flags::raised(mask, v.ovs);
-            Told {
-                answer: Answer::Ok,
-                cnten: s.cnten,
-                values: values,
-            }
-        }
-        Effect::Count => {
-            values.ovs = ovs_counted(v.instructions, v.ovs);
-            values.instructions = std::num::wrapping_add_u64(v.instructions, 1);
-            Told {
-                answer: Answer::Ok,
-                cnten: s.cnten,
-                values: values,
-            }
-        }
+        Effect::ClearOvs { mask } => Told {
+            values: Values {
+                ovs: flags::lowered(mask, v.ovs),
+                ..v
+            },
+            ..unchanged
+        },
+        Effect::SetOvs { mask } => Told {
+            values: Values {
+                ovs: flags::raised(mask, v.ovs),
+                ..v
+            },
+            ..unchanged
+        },
+        Effect::Count => Told {
+            values: Values {
+                ovs: ovs_counted(v.instructions, v.ovs),
+                instructions: v.instructions.wrapping_add(1),
+                ..v
+            },
+            ..unchanged
+        },
         Effect::Sample(draw) => sample(draw, s, v),
     }
 }
@@ -108,11 +102,8 @@ fn enact(e: Effect, s: Settings, v: Values) -> Told
 pub fn in_parts(q: Request, level: u8, s: Settings, counters: &[u64], v: Values) -> Told
     ensures { Responded q level s counters.now v result }
 {
-    enact(
-        external_decide::judge(state::view_at(level, s, counters, v.ovs), q),
-        s,
-        v,
-    )
+    let view = state::view_at(level, s, counters, v.ovs);
+    enact(external_decide::judge(view, q), s, v)
 }
 
 // The same with a record by value. The four calls below share this one, so that the compiled code has its parts once, in one
@@ -120,20 +111,17 @@ pub fn in_parts(q: Request, level: u8, s: Settings, counters: &[u64], v: Values)
 fn respond(q: Request, mut r: Machine) -> Outcome
     ensures { result ≡ enact (judge (view_of r) q) r }
 {
-    let mut settings = r.settings;
-    let told = in_parts(q, r.level, settings, &r.counters, r.values);
-    let answer = told.answer;
-    let values = told.values;
-    settings.cnten = told.cnten;
-    r.settings = settings;
-    r.values = values;
+    let told = in_parts(q, r.level, r.settings, &r.counters, r.values);
+    r.settings.cnten = told.cnten;
+    r.values = told.values;
     Outcome {
-        answer: answer,
+        answer: told.answer,
         machine: r,
     }
 }
 
 // An external read at an offset.
+#[tactic(auto, unfolding(rules::specs::External::external_read))]
 pub fn read(offset: u16, r: Machine) -> Outcome
     ensures { result ≡ external_read offset r }
 {
@@ -141,6 +129,7 @@ pub fn read(offset: u16, r: Machine) -> Outcome
 }
 
 // An external write of x at an offset.
+#[tactic(auto, unfolding(rules::specs::External::external_write))]
 pub fn write(offset: u16, x: u64, r: Machine) -> Outcome
     ensures { result ≡ external_write offset x r }
 {
@@ -148,6 +137,7 @@ pub fn write(offset: u16, x: u64, r: Machine) -> Outcome
 }
 
 // One executed instruction, where counting may be prohibited.
+#[tactic(auto, unfolding(rules::specs::External::tick))]
 pub fn tick(prohibited: bool, r: Machine) -> Outcome
     ensures { result ≡ tick prohibited r }
 {
@@ -155,6 +145,7 @@ pub fn tick(prohibited: bool, r: Machine) -> Outcome
 }
 
 // A member of the sample population, with a draw.
+#[tactic(auto, unfolding(rules::specs::External::member))]
 pub fn member(draw: u8, r: Machine) -> Outcome
     ensures { result ≡ member draw r }
 {

@@ -10,7 +10,7 @@ ghost use Rattle.rules.specs.External.{read_of, write_of, tick_of, member_of, ef
 use answer::Answer;
 use machine::Settings;
 use rules::external::{Effect, Reach, Request};
-use state::{Verdict, View};
+use state::View;
 
 // What a read does that gets so far.
 fn read_of(t: Reach, s: Settings) -> Effect
@@ -65,6 +65,7 @@ fn member_of(draw: u8, s: Settings) -> Effect
 }
 
 // What is requested of a consistent record.
+#[tactic(auto, unfolding(rules::specs::External::effect_of))]
 fn effect_of(q: Request, s: Settings) -> Effect
     ensures { result ≡ effect_of q s }
 {
@@ -81,7 +82,7 @@ pub fn judge(v: View, q: Request) -> Effect
     ensures { result ≡ judge v q }
 {
     match state::verdict_of(v) {
-        Verdict::Refused(n) => Effect::Says(Answer::Refused(n)),
-        Verdict::Consistent => effect_of(q, v.settings),
+        Ok(()) => effect_of(q, v.settings),
+        Err(n) => Effect::Says(Answer::Refused(n)),
     }
 }

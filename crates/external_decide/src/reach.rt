@@ -27,6 +27,7 @@ fn unless_barred(writes: bool, s: Settings, register: Reach) -> Reach
 }
 
 // The register at the offset, as far as it can be reached.
+#[tactic(auto, unfolding(rules::specs::External::reach))]
 pub fn reach(writes: bool, offset: u16, s: Settings) -> Reach
     ensures { result ≡ reach writes offset s }
 {

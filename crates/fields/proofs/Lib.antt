@@ -1,3 +1,2 @@
 -- The laws of the crate `fields`.
-pub mod Below
 pub mod SetLaws

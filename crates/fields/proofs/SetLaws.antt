@@ -5,18 +5,27 @@ use mathlib.Core.List.{List}
 use mathlib.Core.Path.{◌≡◌, refl, sym}
 use native.Mathlib.Nat.{mod-eq_of_lt}
 use native.Mathlib.Omega.{arith}
-use borrow.Author.Tests.{lt-ltb, le-ltb, ltb-false, le-leb, leb-true, eqb-true}
+use borrow.Author.Tests.{lt-ltb, le-ltb, ltb-true, ltb-false, le-leb, leb-true, eqb-true}
 use lib.Dec.{leb, ltb, eqb}
+use Rattle.std.specs.Prelude.{Some, None}
+use Rattle.std.proofs.lemmas.Bool.{agree_below_at}
 use Rattle.bits.specs.Bits.{bit}
-use Rattle.fields.proofs.Below.{below}
 use Rattle.machine.proofs.Bools.{or_right}
 use Rattle.answer.specs.declared.Refusal.TheVariants.{UnknownField, ValueTooLarge, LevelTooLarge}
 use Rattle.machine.specs.declared.Machine.{Machine}
-use Rattle.fields.specs.Largest.{largest, exceeds, largest_level}
+use Rattle.fields.specs.Largest.{largest, largest_of_field, is_field, exceeds, largest_level}
 use Rattle.machine.specs.Machine.{with_level, with_pmsicr}
 use Rattle.store.specs.Store.{store, store_settings, store_list, store_values}
 use Rattle.fields.specs.Set.{pmsicr_after, set, set_level}
 use Rattle.machine.specs.Outcome.{refused, done}
+
+-- a number with a largest value is that of a field, and no field has 0 as its largest
+pub known : (f n : ℕ) → Some n ≡ largest_of_field f → (largest f ≡ 0 → ⊥) × (n ≡ largest f)
+known f n e = go (ltb 0 (largest f)) refl
+  where
+    go : (b : Bool) → is_field f ≡ b → (largest f ≡ 0 → ⊥) × (n ≡ largest f)
+    go true t = let q : Some n ≡ Some (largest f) = rw t at e in (λ z. omega (arith, ltb-true 0 (largest f) t), cc)
+    go false t = let q : Some n ≡ None = rw t at e in cc
 
 -- among the fields of the event numbers the largest value is 0xFFFF
 event_largest : ℕ → Bool
@@ -24,7 +33,7 @@ event_largest f = not (leb 0x40 f) || eqb (largest f) 0xFFFF
 
 event-test : (f : ℕ) → f < 0x5F → event_largest f ≡ true
 unfolding event_largest largest
-event-test = below event_largest 0x5F refl
+event-test f = agree_below_at event_largest (λ _. true) 0x5F f refl
 
 pub event-largest : (f : ℕ) → 0x40 ≤ f → f ≤ 0x5E → largest f ≡ 0xFFFF
 unfolding event_largest
@@ -46,9 +55,13 @@ event-fits f v h l = go (leb 0x40 f) refl (leb f 0x5E) refl
         rw (mod-eq_of_lt {n = v} {m = 65536} (omega arith))
 
 module _ (f v : ℕ) (m : Machine) where
-  pub set-unknown : largest f ≡ 0 → set f v m ≡ refused UnknownField m
+  pub set-unknown : None ≡ largest_of_field f → set f v m ≡ refused UnknownField m
   unfolding set
-  set-unknown e = rw e
+  set-unknown e = go (is_field f) refl
+    where
+      go : (b : Bool) → is_field f ≡ b → set f v m ≡ refused UnknownField m
+      go true t = let q : None ≡ Some (largest f) = rw t at e in cc
+      go false t = rw t
 
   pub set-large : (largest f ≡ 0 → ⊥) → exceeds v f ≡ true → set f v m ≡ refused ValueTooLarge m
   unfolding set

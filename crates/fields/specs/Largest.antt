@@ -1,5 +1,5 @@
 -- The fields of the machine record: their numbers, and the largest value of each; the largest level.
-use Rattle.std.specs.Prelude.{ℕ, ◌-◌, ◌^◌, Bool, ◌&&◌, ◌||◌, List, [], ◌∷◌, leb, ltb, eqb}
+use Rattle.std.specs.Prelude.{ℕ, ◌-◌, ◌^◌, Bool, cond, ◌&&◌, ◌||◌, List, [], ◌∷◌, Option, Some, None, leb, ltb, eqb}
 use Rattle.bits.specs.Bits.{bit}
 use Rattle.machine.specs.First.{first}
 use Rattle.store.specs.Store.{within}
@@ -40,6 +40,10 @@ largest f = first (kinds f) 0
 -- MODEL F19: the number is that of a field
 abbrev pub is_field : ℕ → Bool
 is_field f = ltb 0 (largest f)
+
+-- MODEL F1 and F19: the largest value, where a field has this number
+abbrev pub largest_of_field : ℕ → Option ℕ
+largest_of_field f = cond (is_field f) (Some (largest f)) None
 
 -- MODEL R4, R10 and F22: v is above the largest value of field f; of the overflow flags, bit 31 counts as above it
 abbrev pub exceeds : ℕ → ℕ → Bool

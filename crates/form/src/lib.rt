@@ -7,7 +7,7 @@ ghost use Rattle.form.specs.Form.{head_of, form_of};
 ghost use Rattle.form.specs.Sets.{is_unknown, narrowest, is_too_wide};
 
 // The form of a session's bytes. The short form begins with the byte 10, and its sets have values of 1, 4 or 8 bytes.
-#[derive(Clone, Copy)]
+#[derive(Clone, Copy, Debug, PartialEq, Eq)]
 pub enum Form {
     Long,
     Short,
@@ -17,13 +17,10 @@ pub enum Form {
 pub fn form_of(s: &[u8]) -> Form
     ensures { result ≡ form_of s.now }
 {
-    if s.len() == 0 {
-        return Form::Long;
+    match s {
+        [0x10, ..] => Form::Short,
+        _ => Form::Long,
     }
-    if s[0] == 0x10 {
-        return Form::Short;
-    }
-    Form::Long
 }
 
 // How many bytes stand before the commands.
@@ -49,15 +46,7 @@ pub fn is_unknown(f: Form, c: u8) -> bool
 {
     match f {
         Form::Long => 0x08 < c,
-        Form::Short => {
-            if c == 0x11 {
-                return false;
-            }
-            if c == 0x12 {
-                return false;
-            }
-            0x08 < c
-        }
+        Form::Short => 0x08 < c && c != 0x11 && c != 0x12,
     }
 }
 
@@ -65,13 +54,11 @@ pub fn is_unknown(f: Form, c: u8) -> bool
 pub fn narrowest(v: u64) -> usize
     ensures { result ≡ narrowest v }
 {
-    if v < 0x100 {
-        return 1;
+    match v {
+        ..0x100 => 1,
+        ..0x1_0000_0000 => 4,
+        _ => 8,
     }
-    if v < 0x100000000 {
-        return 4;
-    }
-    8
 }
 
 // The form has a narrower set for the value than one with k bytes.

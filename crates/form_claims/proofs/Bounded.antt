@@ -6,6 +6,8 @@ use mathlib.Core.Path.{◌≡◌}
 use native.Mathlib.Omega.{arith}
 use lib.Dec.{eqb}
 use lib.ListN.{length}
+use Rattle.std.specs.Prelude.{Result, Ok, Err}
+use Rattle.answer.specs.declared.Refusal.{Refusal}
 use Rattle.answer.specs.declared.Refusal.TheVariants.{SetTooWide}
 use Rattle.command.specs.declared.Command.{Command}
 use Rattle.form.specs.declared.Form.{Form}
@@ -22,7 +24,7 @@ use Rattle.form_claims.proofs.Written.{Fits}
 
 module _ (s : List ℕ) (bytes : AreBytes s) where
   -- a command with n bytes of operands, where there are so many
-  Bounded : Command → ℕ → Type 0
+  Bounded : Result Command Refusal → ℕ → Type 0
   Bounded d n = n ≤ length s → bad_of d ≡ [] → Fits d
 
   set-bounded :
@@ -32,8 +34,8 @@ module _ (s : List ℕ) (bytes : AreBytes s) where
   set-bounded f k n size small there = go (is_too_wide f k (operand s 1 k))
     where
       go :
-          (b : Bool) → bad_of (cond b (Command.Bad SetTooWide) (Command.Set (operand s 0 1) (operand s 1 k))) ≡ []
-          → Fits (cond b (Command.Bad SetTooWide) (Command.Set (operand s 0 1) (operand s 1 k)))
+          (b : Bool) → bad_of (cond b (Err SetTooWide) (Ok (Command.Set (operand s 0 1) (operand s 1 k)))) ≡ []
+          → Fits (cond b (Err SetTooWide) (Ok (Command.Set (operand s 0 1) (operand s 1 k))))
       go true h = never h
       go false h = (
         operand-bound s bytes 0 1 (omega arith),

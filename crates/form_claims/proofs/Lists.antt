@@ -5,13 +5,14 @@ use mathlib.Core.List.{List, [], ◌∷◌, ◌++◌, append-nil, append_assoc}
 use mathlib.Core.Path.{◌≡◌, refl, sym, ◌∙◌, ap, subst}
 use native.Mathlib.Omega.{arith}
 use lib.ListN.{length, take, drop, length-drop, take-append-drop}
+use Rattle.std.specs.Prelude.{Result, Ok, Err}
+use Rattle.answer.specs.declared.Refusal.{Refusal}
 use Rattle.command.specs.declared.Command.{Command}
 use Rattle.form.specs.declared.Form.{Form}
 use Rattle.command.specs.Command.{command_of, size_at, is_last, commands_from, commands_in}
 use Rattle.command.proofs.Fuel.{commands-last, commands-on}
 use Rattle.command.proofs.Sizes.{size-bounds}
-use Rattle.encode.specs.Encode.{bytes_of}
-use Rattle.conversion.specs.Conversion.{bytes_in, bad_of, bad_in}
+use Rattle.conversion.specs.Conversion.{read_bytes, bytes_in, bad_of, bad_in}
 use Rattle.conversion.proofs.Given.{never, none_both}
 use Rattle.form_claims.specs.Claims.{AreBytes, read_from}
 use Rattle.form_claims.proofs.Bounded.{front_fits}
@@ -20,22 +21,23 @@ use Rattle.form_claims.proofs.ReadBack.{front-back}
 use Rattle.form_claims.proofs.Written.{Fits, written-front, written-size}
 
 -- commands up to the end command, which is the last, and none that is none
-pub data Proper : List Command → Type 0 where
-  ends : Proper (Command.End ∷ [])
-  goes : {c : Command} {cs : List Command} → Fits c → is_last c ≡ false → Proper cs → Proper (c ∷ cs)
+pub data Proper : List (Result Command Refusal) → Type 0 where
+  ends : Proper (Ok Command.End ∷ [])
+  goes : {c : Result Command Refusal} {cs : List (Result Command Refusal)} → Fits c → is_last c ≡ false → Proper cs → Proper (c
+      ∷ cs)
 
 -- the last command that is read, where it is one
-last-is-end : (c : Command) → bad_of c ≡ [] → is_last c ≡ true → c ≡ Command.End
-last-is-end Command.End h e = refl
-last-is-end (Command.Set f v) h e = cc
-last-is-end (Command.Level l) h e = cc
-last-is-end (Command.Access w x) h e = cc
-last-is-end (Command.Read o) h e = cc
-last-is-end (Command.Write o x) h e = cc
-last-is-end (Command.Tick p) h e = cc
-last-is-end Command.Back h e = cc
-last-is-end (Command.Member d) h e = cc
-last-is-end (Command.Bad r) h e = never h
+last-is-end : (c : Result Command Refusal) → bad_of c ≡ [] → is_last c ≡ true → c ≡ (Ok Command.End)
+last-is-end (Ok Command.End) h e = refl
+last-is-end (Ok (Command.Set f v)) h e = cc
+last-is-end (Ok (Command.Level l)) h e = cc
+last-is-end (Ok (Command.Access w x)) h e = cc
+last-is-end (Ok (Command.Read o)) h e = cc
+last-is-end (Ok (Command.Write o x)) h e = cc
+last-is-end (Ok (Command.Tick p)) h e = cc
+last-is-end (Ok Command.Back) h e = cc
+last-is-end (Ok (Command.Member d)) h e = cc
+last-is-end (Err r) h e = never h
 
 -- the first of them is none that is none
 module _ (f : Form) (n : ℕ) (s : List ℕ) (h : bad_in (commands_from f (suc n) s) ≡ []) where
@@ -63,7 +65,7 @@ proper f (suc n) s l b h = go (is_last (command_of f s)) refl (proper f n (drop 
         → (length rest < n → AreBytes rest → bad_in (commands_from f n rest) ≡ [] → Proper (commands_from f n rest))
         → Proper (command_of f s ∷ cond t [] (commands_from f n rest))
     go true e on =
-        subst (λ (c : Command). Proper (c ∷ [])) (sym (last-is-end (command_of f s) (first_good f n s h) e)) ends
+        subst (λ (c : Result Command Refusal). Proper (c ∷ [])) (sym (last-is-end (command_of f s) (first_good f n s h) e)) ends
     go false e on =
         let size = size-bounds f s e in
         let fewer = length-drop (size_at s) s in
@@ -84,7 +86,7 @@ read_back f (suc n) s b h = go (is_last (command_of f s)) refl (read_back f n (d
     go :
         (t : Bool) → is_last (command_of f s) ≡ t
         → (AreBytes rest → bad_in (commands_from f n rest) ≡ [] → bytes_in f (commands_from f n rest) ≡ read_from f n rest)
-        → bytes_of f (command_of f s) ++ bytes_in f (cond t [] (commands_from f n rest))
+        → read_bytes f (command_of f s) ++ bytes_in f (cond t [] (commands_from f n rest))
         ≡ take (size_at s) s ++ cond t [] (read_from f n rest)
     go true e on = ap (λ (l : List ℕ). l ++ []) (front-back f s b (first_good f n s h))
     go false e on =
@@ -116,26 +118,28 @@ read-front f (suc n) s = go (is_last (command_of f s)) (read-front f n (drop (si
 
 -- what was written is read as it was written
 pub written-commands :
-    (f : Form) (cs : List Command) (rest : List ℕ) → Proper cs → commands_in f (bytes_in f cs ++ rest) ≡ cs
+    (f : Form) (cs : List (Result Command Refusal)) (rest : List ℕ) → Proper cs → commands_in f (bytes_in f cs ++ rest) ≡ cs
 unfolding bytes_in
 written-commands f cs rest ends =
-    let front = written-front f Command.End rest tt in
-    subst (λ (s : List ℕ). commands_in f s ≡ Command.End ∷ [])
-    (ap (λ (l : List ℕ). l ++ rest) (sym (append-nil (bytes_of f Command.End))))
-    (commands-last f (bytes_of f Command.End ++ rest) (ap is_last front) ∙ ap (λ (c : Command). c ∷ []) front)
+    let front = written-front f (Ok Command.End) rest tt in
+    subst (λ (s : List ℕ). commands_in f s ≡ Ok Command.End ∷ [])
+    (ap (λ (l : List ℕ). l ++ rest) (sym (append-nil (read_bytes f (Ok Command.End)))))
+    (commands-last f (read_bytes f (Ok Command.End) ++ rest) (ap is_last front) ∙ ap (λ (c : Result Command Refusal). c
+    ∷ []) front)
 written-commands f cs rest (goes {c} {cs = ds} h e p) =
     let later = bytes_in f ds ++ rest in
     let front = written-front f c later h in
-    let behind : drop (size_at (bytes_of f c ++ later)) (bytes_of f c ++ later) ≡ later =
-    ap (λ n. drop n (bytes_of f c ++ later)) (written-size f c later h) ∙ drop-front (bytes_of f c) later in
-    ap (commands_in f) (append_assoc (bytes_of f c) (bytes_in f ds) rest)
-    ∙ commands-on f (bytes_of f c ++ later) (ap is_last front ∙ e)
+    let behind : drop (size_at (read_bytes f c ++ later)) (read_bytes f c ++ later) ≡ later =
+    ap (λ n. drop n (read_bytes f c ++ later)) (written-size f c later h) ∙ drop-front (read_bytes f c) later in
+    ap (commands_in f) (append_assoc (read_bytes f c) (bytes_in f ds) rest)
+    ∙ commands-on f (read_bytes f c ++ later) (ap is_last front ∙ e)
     ∙ (λ i. front i ∷ commands_in f (behind i))
-    ∙ ap (λ (l : List Command). c ∷ l) (written-commands f ds rest p)
+    ∙ ap (λ (l : List (Result Command Refusal)). c ∷ l) (written-commands f ds rest p)
 
 -- the end command is the last
-pub proper-end : (cs : List Command) → Proper cs → (ds : List Command) × (cs ≡ ds ++ (Command.End ∷ []))
+pub proper-end : (cs : List (Result Command Refusal)) → Proper cs → (ds : List (Result Command Refusal)) × (cs ≡ ds
+    ++ (Ok Command.End ∷ []))
 proper-end cs ends = ([], refl)
 proper-end cs (goes {c} {cs = ds} h e p) =
     let rest = proper-end ds p in
-    (c ∷ rest.0, ap (λ (l : List Command). c ∷ l) rest.1)
+    (c ∷ rest.0, ap (λ (l : List (Result Command Refusal)). c ∷ l) rest.1)

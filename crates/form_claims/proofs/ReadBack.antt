@@ -7,6 +7,8 @@ use native.Mathlib.Omega.{arith}
 use borrow.Author.Tests.{ltb-false, eqb-true, eqb-false}
 use lib.Dec.{ltb, eqb}
 use lib.ListN.{length, take}
+use Rattle.std.specs.Prelude.{Result, Ok, Err}
+use Rattle.answer.specs.declared.Refusal.{Refusal}
 use Rattle.answer.specs.declared.Refusal.TheVariants.{SetTooWide}
 use Rattle.command.specs.declared.Command.{Command}
 use Rattle.form.specs.declared.Form.{Form}
@@ -16,7 +18,7 @@ use Rattle.command.specs.Operand.{operand, little_bytes}
 use Rattle.form.proofs.Width.{narrowest-1}
 use Rattle.encode.specs.Encode.{set_byte, bytes_of}
 use Rattle.command.proofs.Front.{front-cases}
-use Rattle.conversion.specs.Conversion.{bad_of}
+use Rattle.conversion.specs.Conversion.{read_bytes, bad_of}
 use Rattle.conversion.proofs.Given.{never}
 use Rattle.form_claims.specs.Claims.{AreBytes}
 use Rattle.form_claims.proofs.Numbers.{operand-bound, operands-back}
@@ -44,29 +46,29 @@ exact-8 v = go (ltb v (256 ^ 1)) (ltb v (256 ^ 4))
 -- a set of the short form, as it was read
 set_back :
     (k a v : ℕ) → (ltb (narrowest v) k ≡ false → narrowest v ≡ k) → bad_of (set_of Form.Short k a v) ≡ []
-    → bytes_of Form.Short (set_of Form.Short k a v) ≡ set_byte k ∷ (little_bytes 1 a ++ little_bytes k v)
+    → read_bytes Form.Short (set_of Form.Short k a v) ≡ set_byte k ∷ (little_bytes 1 a ++ little_bytes k v)
 unfolding bytes_of
 set_back k a v exact = go (ltb (narrowest v) k) exact
   where
     go :
         (b : Bool) → (b ≡ false → narrowest v ≡ k)
-        → bad_of (cond b (Command.Bad SetTooWide) (Command.Set a v)) ≡ []
-        → bytes_of Form.Short (cond b (Command.Bad SetTooWide) (Command.Set a v))
+        → bad_of (cond b (Err SetTooWide) (Ok (Command.Set a v))) ≡ []
+        → read_bytes Form.Short (cond b (Err SetTooWide) (Ok (Command.Set a v)))
         ≡ set_byte k ∷ (little_bytes 1 a ++ little_bytes k v)
     go true e h = never h
     go false e h = (λ i. set_byte (e refl i) ∷ (little_bytes 1 a ++ little_bytes (e refl i) v))
 
 -- the tables of commands and of their sizes go by the same tests
 pub choose :
-    (P : Command → ℕ → Type 0) (b : Bool) (x y : Command) (n m : ℕ)
+    (P : Result Command Refusal → ℕ → Type 0) (b : Bool) (x y : Result Command Refusal) (n m : ℕ)
     → (b ≡ true → P x n) → (b ≡ false → P y m) → P (cond b x y) (cond b n m)
 choose P true x y n m p q = p refl
 choose P false x y n m p q = q refl
 
 module _ (f : Form) (c : ℕ) (s : List ℕ) (bytes : AreBytes s) (whole : operand_bytes c ≤ length s) where
   -- a command with n bytes of operands is as it was read from c and s
-  Back : Command → ℕ → Type 0
-  Back d n = bad_of d ≡ [] → bytes_of f d ≡ c ∷ take n s
+  Back : Result Command Refusal → ℕ → Type 0
+  Back d n = bad_of d ≡ [] → read_bytes f d ≡ c ∷ take n s
 
   -- a command byte and two operands, as they were read
   both :
@@ -158,11 +160,11 @@ with-back f c s bytes whole k =
 
 -- the command that bytes begin with
 pub front-back :
-    (f : Form) (s : List ℕ) → AreBytes s → bad_of (command_of f s) ≡ [] → bytes_of f (command_of f s) ≡ take (size_at s) s
+    (f : Form) (s : List ℕ) → AreBytes s → bad_of (command_of f s) ≡ [] → read_bytes f (command_of f s) ≡ take (size_at s) s
 unfolding command_of Back
 front-back f [] bytes h = never h
 front-back f (c ∷ s) bytes h =
     let one : 1 + operand_bytes c ≡ suc (operand_bytes c) = omega arith in
-    front-cases (λ d. bad_of d ≡ [] → bytes_of f d ≡ c ∷ take (operand_bytes c) s) f c s never never
+    front-cases (λ d. bad_of d ≡ [] → read_bytes f d ≡ c ∷ take (operand_bytes c) s) f c s never never
     (λ known whole. with-back f c s bytes.1 whole known) h
     ∙ sym (ap (λ n. take n (c ∷ s)) one)

@@ -7,6 +7,8 @@ use native.Mathlib.Omega.{arith}
 use borrow.Author.Tests.{ltb-false, eqb-true}
 use lib.Dec.{eqb}
 use lib.ListN.{length, drop, length-append}
+use Rattle.std.specs.Prelude.{Result, Ok, Err}
+use Rattle.answer.specs.declared.Refusal.{Refusal}
 use Rattle.command.specs.declared.Command.{Command}
 use Rattle.form.specs.declared.Form.{Form}
 use Rattle.command.specs.Command.{commands_in, commands_of}
@@ -15,6 +17,7 @@ use Rattle.command.specs.Operand.{little_bytes}
 use Rattle.encode.specs.Encode.{value_bytes, bytes_of}
 use Rattle.encode.proofs.Bytes.{length-little-bytes, few-value-bytes}
 use Rattle.conversion.specs.Conversion.{
+  read_bytes,
   other_form,
   bytes_in,
   session_in,
@@ -38,24 +41,24 @@ head-body (b ∷ s) = go (eqb b 0x10) refl
     go false e = refl
 
 -- the form of a session that was written
-long-form : (cs : List Command) → Proper cs → form_of (bytes_in Form.Long cs) ≡ Form.Long
+long-form : (cs : List (Result Command Refusal)) → Proper cs → form_of (bytes_in Form.Long cs) ≡ Form.Long
 unfolding bytes_in bytes_of
 long-form cs ends = refl
 long-form cs (goes {c} {cs = ds} h e p) = go c h
   where
-    go : (c : Command) → Fits c → form_of (bytes_of Form.Long c ++ bytes_in Form.Long ds) ≡ Form.Long
-    go Command.End h = refl
-    go (Command.Set a v) h = refl
-    go (Command.Level l) h = refl
-    go (Command.Access w x) h = refl
-    go (Command.Read o) h = refl
-    go (Command.Write o x) h = refl
-    go (Command.Tick p) h = refl
-    go Command.Back h = refl
-    go (Command.Member d) h = refl
-    go (Command.Bad r) h = absurd h
+    go : (c : Result Command Refusal) → Fits c → form_of (read_bytes Form.Long c ++ bytes_in Form.Long ds) ≡ Form.Long
+    go (Ok Command.End) h = refl
+    go (Ok (Command.Set a v)) h = refl
+    go (Ok (Command.Level l)) h = refl
+    go (Ok (Command.Access w x)) h = refl
+    go (Ok (Command.Read o)) h = refl
+    go (Ok (Command.Write o x)) h = refl
+    go (Ok (Command.Tick p)) h = refl
+    go (Ok Command.Back) h = refl
+    go (Ok (Command.Member d)) h = refl
+    go (Err r) h = absurd h
 
-module _ (g : Form) (cs : List Command) (p : Proper cs) where
+module _ (g : Form) (cs : List (Result Command Refusal)) (p : Proper cs) where
   pub written-form : form_of (session_in g cs) ≡ g
   written-form = go g
     where
@@ -86,55 +89,55 @@ either-byte : (b : Bool) (x y : ℕ) → x < 256 → y < 256 → cond b x y < 25
 either-byte true x y p q = p
 either-byte false x y p q = q
 
-command-bytes : (f : Form) (c : Command) → AreBytes (bytes_of f c)
+command-bytes : (f : Form) (c : Result Command Refusal) → AreBytes (read_bytes f c)
 unfolding bytes_of
-command-bytes f Command.End = (omega arith, tt)
-command-bytes f (Command.Set a v) =
+command-bytes f (Ok Command.End) = (omega arith, tt)
+command-bytes f (Ok (Command.Set a v)) =
     let k = value_bytes f v in (
       either-byte (eqb k 1) 0x11 (cond (eqb k 4) 0x12 0x01) (omega arith)
           (either-byte (eqb k 4) 0x12 0x01 (omega arith) (omega arith)),
       append-bytes (little_bytes 1 a) (little_bytes k v) (little-are-bytes 1 a) (little-are-bytes k v),
     )
-command-bytes f (Command.Level l) = (omega arith, little-are-bytes 1 l)
-command-bytes f (Command.Access w x) = (
+command-bytes f (Ok (Command.Level l)) = (omega arith, little-are-bytes 1 l)
+command-bytes f (Ok (Command.Access w x)) = (
   omega arith,
   append-bytes (little_bytes 4 w) (little_bytes 8 x) (little-are-bytes 4 w) (little-are-bytes 8 x),
 )
-command-bytes f (Command.Read o) = (omega arith, little-are-bytes 2 o)
-command-bytes f (Command.Write o x) = (
+command-bytes f (Ok (Command.Read o)) = (omega arith, little-are-bytes 2 o)
+command-bytes f (Ok (Command.Write o x)) = (
   omega arith,
   append-bytes (little_bytes 2 o) (little_bytes 8 x) (little-are-bytes 2 o) (little-are-bytes 8 x),
 )
-command-bytes f (Command.Tick p) = (omega arith, little-are-bytes 1 p)
-command-bytes f Command.Back = (omega arith, tt)
-command-bytes f (Command.Member d) = (omega arith, little-are-bytes 1 d)
-command-bytes f (Command.Bad r) = tt
+command-bytes f (Ok (Command.Tick p)) = (omega arith, little-are-bytes 1 p)
+command-bytes f (Ok Command.Back) = (omega arith, tt)
+command-bytes f (Ok (Command.Member d)) = (omega arith, little-are-bytes 1 d)
+command-bytes f (Err r) = tt
 
-commands-bytes : (f : Form) (cs : List Command) → AreBytes (bytes_in f cs)
+commands-bytes : (f : Form) (cs : List (Result Command Refusal)) → AreBytes (bytes_in f cs)
 unfolding bytes_in
 commands-bytes f [] = tt
-commands-bytes f (c ∷ cs) = append-bytes (bytes_of f c) (bytes_in f cs) (command-bytes f c) (commands-bytes f cs)
+commands-bytes f (c ∷ cs) = append-bytes (read_bytes f c) (bytes_in f cs) (command-bytes f c) (commands-bytes f cs)
 
-pub session-bytes : (f : Form) (cs : List Command) → AreBytes (session_in f cs)
+pub session-bytes : (f : Form) (cs : List (Result Command Refusal)) → AreBytes (session_in f cs)
 session-bytes Form.Long cs = commands-bytes Form.Long cs
 session-bytes Form.Short cs = (omega arith, commands-bytes Form.Short cs)
 
 -- a command is not longer in the short form
-shorter : (c : Command) → length (bytes_of Form.Short c) ≤ length (bytes_of Form.Long c)
+shorter : (c : Result Command Refusal) → length (read_bytes Form.Short c) ≤ length (read_bytes Form.Long c)
 unfolding bytes_of
-shorter Command.End = omega arith
-shorter (Command.Set a v) =
+shorter (Ok Command.End) = omega arith
+shorter (Ok (Command.Set a v)) =
     omega (arith, few-value-bytes Form.Short v, length-little-bytes (value_bytes Form.Short v) v)
-shorter (Command.Level l) = omega arith
-shorter (Command.Access w x) = omega arith
-shorter (Command.Read o) = omega arith
-shorter (Command.Write o x) = omega arith
-shorter (Command.Tick p) = omega arith
-shorter Command.Back = omega arith
-shorter (Command.Member d) = omega arith
-shorter (Command.Bad r) = omega arith
+shorter (Ok (Command.Level l)) = omega arith
+shorter (Ok (Command.Access w x)) = omega arith
+shorter (Ok (Command.Read o)) = omega arith
+shorter (Ok (Command.Write o x)) = omega arith
+shorter (Ok (Command.Tick p)) = omega arith
+shorter (Ok Command.Back) = omega arith
+shorter (Ok (Command.Member d)) = omega arith
+shorter (Err r) = omega arith
 
-pub all-shorter : (cs : List Command) → length (bytes_in Form.Short cs) ≤ length (bytes_in Form.Long cs)
+pub all-shorter : (cs : List (Result Command Refusal)) → length (bytes_in Form.Short cs) ≤ length (bytes_in Form.Long cs)
 unfolding bytes_in
 all-shorter [] = omega arith
 all-shorter (c ∷ cs) =
@@ -142,6 +145,6 @@ all-shorter (c ∷ cs) =
       arith,
       shorter c,
       all-shorter cs,
-      length-append (bytes_of Form.Short c) (bytes_in Form.Short cs),
-      length-append (bytes_of Form.Long c) (bytes_in Form.Long cs),
+      length-append (read_bytes Form.Short c) (bytes_in Form.Short cs),
+      length-append (read_bytes Form.Long c) (bytes_in Form.Long cs),
     )

@@ -6,6 +6,8 @@ use mathlib.Core.Path.{◌≡◌, refl, sym, ◌∙◌, ap, subst}
 use native.Mathlib.Omega.{arith}
 use borrow.Author.Tests.{le-ltb}
 use lib.ListN.{length, length-append}
+use Rattle.std.specs.Prelude.{Result, Ok}
+use Rattle.answer.specs.declared.Refusal.{Refusal}
 use Rattle.command.specs.declared.Command.{Command}
 use Rattle.form.specs.declared.Form.{Form}
 use Rattle.command.specs.Command.{commands_in, commands_of}
@@ -65,7 +67,7 @@ not-too-long Form.Short h = refl
 -- the answers are those of the commands
 same-answers : (s t : List ℕ) → commands_of t ≡ commands_of s → answers_of t ≡ answers_of s
 unfolding answers_in
-same-answers s t e = ap (λ (cs : List Command). (perform cs begun).answers) e
+same-answers s t e = ap (λ (cs : List (Result Command Refusal)). (perform cs begun).answers) e
 
 module _ (s t : List ℕ) (o : OtherForm s t) where
   how : Converts s t
@@ -120,7 +122,7 @@ same-form-and-commands s t o = (
 )
 
 -- no refusal was met, the end command included
-none-and-end : (cs : List Command) → bad_in cs ≡ [] → bad_in (cs ++ (Command.End ∷ [])) ≡ []
+none-and-end : (cs : List (Result Command Refusal)) → bad_in cs ≡ [] → bad_in (cs ++ (Ok Command.End ∷ [])) ≡ []
 unfolding bad_in
 none-and-end [] h = refl
 none-and-end (c ∷ cs) h =
@@ -170,7 +172,7 @@ reads-through s t o =
 pub one_more : OneMore
 one_more cs = omega (arith, all-shorter cs)
 
-either-form : (f : Form) (cs : List Command) → NotLongerIn f (session_in f cs) (session_in (other_form f) cs)
+either-form : (f : Form) (cs : List (Result Command Refusal)) → NotLongerIn f (session_in f cs) (session_in (other_form f) cs)
 either-form Form.Long cs = one_more cs
 either-form Form.Short cs = one_more cs
 

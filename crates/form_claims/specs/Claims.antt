@@ -1,5 +1,6 @@
 -- What is claimed of a session and its other form.
-use Rattle.std.specs.Prelude.{ℕ, zero, suc, ◌+◌, ◌<◌, ◌≤◌, false, cond, List, [], ◌∷◌, ◌++◌, ◌≡◌, length, take, drop}
+use Rattle.std.specs.Prelude.{ℕ, zero, suc, ◌+◌, ◌<◌, ◌≤◌, false, cond, List, [], ◌∷◌, ◌++◌, ◌≡◌, length, take, drop, Result, Ok}
+use Rattle.answer.specs.declared.Refusal.{Refusal}
 use Rattle.command.specs.declared.Command.{Command}
 use Rattle.form.specs.declared.Form.{Form}
 use Rattle.command.specs.Command.{command_of, size_at, is_last, commands_of}
@@ -19,16 +20,16 @@ pub record OtherForm (s t : List ℕ) : Type 0 where
 
 -- MODEL Z4 and Z5: what a session is like that none of the refusals of a conversion is for: not too long, no refusal met in
 -- reading up to an end command, and in the other form not too long
-pub record Convertible (s : List ℕ) (cs : List Command) : Type 0 where
+pub record Convertible (s : List ℕ) (cs : List (Result Command Refusal)) : Type 0 where
   pub bytes : AreBytes s
   pub short-enough : length (body_of s) ≤ longest
-  pub reads : commands_of s ≡ cs ++ (Command.End ∷ [])
+  pub reads : commands_of s ≡ cs ++ (Ok Command.End ∷ [])
   pub good : bad_in cs ≡ []
   pub fits : is_too_long (other_form (form_of s)) (length (bytes_in (other_form (form_of s)) (commands_of s))) ≡ false
 
 -- MODEL Z5: each such session has another form
 abbrev pub HasOther : Type 0
-HasOther = (s : List ℕ) (cs : List Command) → Convertible s cs → (t : List ℕ) × OtherForm s t
+HasOther = (s : List ℕ) (cs : List (Result Command Refusal)) → Convertible s cs → (t : List ℕ) × OtherForm s t
 
 -- MODEL Z4: which has the other form, and the same commands
 abbrev pub SameCommands : Type 0
@@ -51,7 +52,8 @@ read_of s = head_of (form_of s) ++ read_from (form_of s) (suc (length (body_of s
 abbrev pub ReadsThrough : Type 0
 ReadsThrough =
     (s t : List ℕ) → OtherForm s t
-    → ((rest : List ℕ) × (read_of s ++ rest ≡ s)) × ((cs : List Command) × (commands_of s ≡ cs ++ (Command.End ∷ [])))
+    → ((rest : List ℕ) × (read_of s ++ rest ≡ s)) × ((cs : List (Result Command Refusal))
+    × (commands_of s ≡ cs ++ (Ok Command.End ∷ [])))
 
 -- MODEL Z7: the other form has another form, which is the session through its end command
 abbrev pub ThereAndBack : Type 0
@@ -59,7 +61,7 @@ ThereAndBack = (s t : List ℕ) → OtherForm s t → OtherForm t (read_of s)
 
 -- MODEL Z8: commands have one byte more in the short form at most
 abbrev pub OneMore : Type 0
-OneMore = (cs : List Command) → length (session_in Form.Short cs) ≤ 1 + length (session_in Form.Long cs)
+OneMore = (cs : List (Result Command Refusal)) → length (session_in Form.Short cs) ≤ 1 + length (session_in Form.Long cs)
 
 -- MODEL Z8: of two forms, the first in form f, the short one is not longer by more than that
 abbrev pub NotLongerIn : Form → List ℕ → List ℕ → Type 0

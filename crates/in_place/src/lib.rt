@@ -1,6 +1,5 @@
 // The access with the record lent and changed there, so that the caller holds one record. Thin functions over the by-value step,
-// which works on a copy of its own during the call. A reference to a struct is proved by hand, so both functions
-// have a walk in proofs/; whoever calls `owned` needs none.
+// which works on a copy of its own during the call.
 #![tactic(auto)]
 
 ghost use Rattle.std.specs.Prelude.{◌≡◌};
@@ -19,13 +18,9 @@ pub fn step(r: &mut Machine, w: u32, x: u64) -> Answer
 }
 
 // The same for a caller that has the record by value: the record is lent to `step`, and handed back with the answer.
-pub fn owned(r: Machine, w: u32, x: u64) -> Outcome
+pub fn owned(mut r: Machine, w: u32, x: u64) -> Outcome
     ensures { result ≡ step w x r }
 {
-    let mut m = r;
-    let a = step(&mut m, w, x);
-    Outcome {
-        answer: a,
-        machine: m,
-    }
+    let answer = step(&mut r, w, x);
+    Outcome { answer, machine: r }
 }

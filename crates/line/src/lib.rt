@@ -1,81 +1,81 @@
 // The line of an answer at its position, written into a buffer.
 #![tactic(auto)]
 
-ghost use Rattle.std.specs.Prelude.{◌+◌, ◌<◌, ◌≤◌, length};
+ghost use Rattle.std.specs.Prelude.{◌+◌, ◌<◌, ◌≤◌};
 ghost use Rattle.answer.specs.declared.Answer.{Answer};
 ghost use Rattle.answer.specs.declared.Trap.{Trap};
 ghost use Rattle.line.specs.Line.{text_of, line_of};
-ghost use Rattle.text.specs.Written.{Written};
+ghost use Rattle.text.specs.Wrote.{HasRoom, Wrote};
 
 use answer::{Answer, Refusal, Trap};
+use text::Writer;
 
-fn trap(out: &mut [u8], at: usize, t: Trap) -> usize
-    requires { at + 40 ≤ length out.old }
-    ensures { Written out.old at (text_of (Answer.Trap t)) out.new result × (result ≤ at + 26) }
+fn trap(w: &mut Writer<'_>, t: Trap)
+    requires { HasRoom w.old 40 }
+    ensures { Wrote w.old (text_of (Answer.Trap t)) w.new × (w.new.at ≤ w.old.at + 26) }
 {
-    let target = t.target;
-    let cause = t.cause;
-    let a = text::bytes(out, at, b"trap ");
-    let b = text::decimal(out, a, answer::level_number(target) as u64);
-    let c = text::bytes(out, b, b" ");
-    let d = text::hex(out, c, 8, t.syndrome as u64);
-    let e = text::bytes(out, d, b" ");
-    text::decimal(out, e, answer::cause_number(cause) as u64)
+    w.bytes(b"trap ");
+    w.decimal(u8::from(t.target) as u64);
+    w.bytes(b" ");
+    w.hex(8, t.syndrome as u64);
+    w.bytes(b" ");
+    w.decimal(u8::from(t.cause) as u64);
 }
 
-fn value(out: &mut [u8], at: usize, x: u64) -> usize
-    requires { at + 40 ≤ length out.old }
-    ensures { Written out.old at (text_of (Answer.Value x)) out.new result × (result ≤ at + 26) }
+fn value(w: &mut Writer<'_>, x: u64)
+    requires { HasRoom w.old 40 }
+    ensures { Wrote w.old (text_of (Answer.Value x)) w.new × (w.new.at ≤ w.old.at + 26) }
 {
-    let a = text::bytes(out, at, b"value ");
-    text::hex(out, a, 16, x)
+    w.bytes(b"value ");
+    w.hex(16, x);
 }
 
-fn mrs(out: &mut [u8], at: usize, x: u64, rt: u8) -> usize
-    requires { at + 40 ≤ length out.old }
-    ensures { Written out.old at (text_of (Answer.Mrs x rt)) out.new result × (result ≤ at + 26) }
+fn mrs(w: &mut Writer<'_>, x: u64, rt: u8)
+    requires { HasRoom w.old 40 }
+    ensures { Wrote w.old (text_of (Answer.Mrs x rt)) w.new × (w.new.at ≤ w.old.at + 26) }
 {
-    let a = text::bytes(out, at, b"value ");
-    let b = text::hex(out, a, 16, x);
-    let c = text::bytes(out, b, b" ");
-    text::decimal(out, c, rt as u64)
+    w.bytes(b"value ");
+    w.hex(16, x);
+    w.bytes(b" ");
+    w.decimal(rt as u64);
 }
 
-fn refused(out: &mut [u8], at: usize, r: Refusal) -> usize
-    requires { at + 40 ≤ length out.old }
-    ensures { Written out.old at (text_of (Answer.Refused r)) out.new result × (result ≤ at + 26) }
+fn refused(w: &mut Writer<'_>, r: Refusal)
+    requires { HasRoom w.old 40 }
+    ensures { Wrote w.old (text_of (Answer.Refused r)) w.new × (w.new.at ≤ w.old.at + 26) }
 {
-    let a = text::bytes(out, at, b"refused ");
-    text::decimal(out, a, answer::refusal_number(r) as u64)
+    w.bytes(b"refused ");
+    w.decimal(u8::from(r) as u64);
 }
 
-// The text of an answer, 26 bytes at most.
+// The text of an answer, 26 bytes at most. It is no `Display`: what `fmt` prints has no contract on its bytes, and `text_of` says
+// each byte.
 #[tactic(auto, unfolding(crate::specs::Line::text_of))]
-fn answer_text(out: &mut [u8], at: usize, a: Answer) -> usize
-    requires { at + 40 ≤ length out.old }
-    ensures { Written out.old at (text_of a) out.new result × (result ≤ at + 26) }
+fn answer_text(w: &mut Writer<'_>, a: Answer)
+    requires { HasRoom w.old 40 }
+    ensures { Wrote w.old (text_of a) w.new × (w.new.at ≤ w.old.at + 26) }
 {
     match a {
-        Answer::Ok => text::bytes(out, at, b"ok"),
-        Answer::Sampled => text::bytes(out, at, b"sampled"),
-        Answer::End => text::bytes(out, at, b"end"),
-        Answer::Undef => text::bytes(out, at, b"undef"),
-        Answer::Other => text::bytes(out, at, b"other"),
-        Answer::Error => text::bytes(out, at, b"error"),
-        Answer::Trap(t) => trap(out, at, t),
-        Answer::Value(x) => value(out, at, x),
-        Answer::Mrs { value, rt } => mrs(out, at, value, rt),
-        Answer::Refused(r) => refused(out, at, r),
+        Answer::Ok => w.bytes(b"ok"),
+        Answer::Sampled => w.bytes(b"sampled"),
+        Answer::End => w.bytes(b"end"),
+        Answer::Undef => w.bytes(b"undef"),
+        Answer::Other => w.bytes(b"other"),
+        Answer::Error => w.bytes(b"error"),
+        Answer::Trap(t) => trap(w, t),
+        Answer::Value(x) => value(w, x),
+        Answer::Mrs { value, rt } => mrs(w, value, rt),
+        Answer::Refused(r) => refused(w, r),
     }
 }
 
-// The line of an answer, 32 bytes at most: its position, a space, the text and the line's end.
-pub fn line(out: &mut [u8], at: usize, position: u64, a: Answer) -> usize
-    requires { (position < 10000) × (at + 45 ≤ length out.old) }
-    ensures { Written out.old at (line_of position a) out.new result × (result ≤ at + 32) }
+// Writes the line of an answer, 32 bytes at most: its position, a space, the text and the line's end.
+pub fn line(w: &mut Writer<'_>, position: u64, a: Answer)
+    requires { (position < 10000) × HasRoom w.old 45 }
+    ensures { Wrote w.old (line_of position a) w.new × (w.new.at ≤ w.old.at + 32) }
 {
-    let b = text::decimal(out, at, position);
-    let c = text::bytes(out, b, b" ");
-    let d = answer_text(out, c, a);
-    text::bytes(out, d, b"\n")
+    w.decimal(position);
+    w.bytes(b" ");
+    answer_text(w, a);
+    w.bytes(b"\n");
 }

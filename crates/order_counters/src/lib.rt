@@ -11,6 +11,7 @@ use rules::Stop;
 use state::View;
 
 // The target of MODEL T2.
+#[tactic(auto, unfolding(rules::specs::Traps::disabled_target))]
 fn disabled_target(v: View) -> Level
     ensures { result ≡ disabled_target v }
 {
@@ -21,10 +22,11 @@ fn disabled_target(v: View) -> Level
 }
 
 // A stop at EL3 by a control, of PMICNTR too.
+#[tactic(auto, unfolding(rules::specs::Traps::stop_at_el3))]
 pub fn stop_at_el3(v: View, cause: Cause) -> Stop
     ensures { result ≡ stop_at_el3 v cause }
 {
-    if v.settings.execution.halted & v.settings.execution.sdd {
+    if v.halted_sdd() {
         return Stop::Undef;
     }
     Stop::Trap(Level::El3, cause)
@@ -32,25 +34,17 @@ pub fn stop_at_el3(v: View, cause: Cause) -> Stop
 
 // The order for PMEVCNTR and PMSWINC, from whether PMUSERENR has disabled it at EL0, the fine-grained bit, and T5's test,
 // whether the counter is inaccessible: MODEL T1 to T6.
+#[tactic(auto, unfolding(rules::specs::Traps::counter_order, rules::specs::Traps::counter_rules))]
 fn counter_order(v: View, disabled: bool, trap_bit: bool, rule5: bool) -> Stop
     ensures { result ≡ counter_order v disabled trap_bit rule5 }
 {
-    let level = v.level;
     let s = v.settings;
-    let el2 = s.execution.el2enabled;
-    let el3 = s.features.el3;
-    let halted_sdd = s.execution.halted & s.execution.sdd;
-    let not_host_el0 = !((level == 0) & s.hcr.e2h & s.hcr.tge);
-    let rule1 = el3 & (level <= 2) & halted_sdd & s.features.el3prio & s.mdcr3.tpm;
-    let rule2 = (level == 0) & disabled;
-    let rule3 = el2
-        & (level <= 1)
-        & not_host_el0
-        & s.features.fgt
-        & (!el3 | s.scr.fgten)
-        & trap_bit;
-    let rule4 = el2 & (level <= 1) & s.mdcr2.tpm;
-    let rule6 = el3 & (level <= 2) & s.mdcr3.tpm;
+    let has = s.features;
+    let rule1 = v.below_el3() & v.halted_sdd() & has.el3prio & s.mdcr3.tpm;
+    let rule2 = (v.level == 0) & disabled;
+    let rule3 = v.below_el2() & v.not_host_el0() & has.fgt & (!has.el3 | s.scr.fgten) & trap_bit;
+    let rule4 = v.below_el2() & s.mdcr2.tpm;
+    let rule6 = v.below_el3() & s.mdcr3.tpm;
     if rule1 {
         return Stop::Undef;
     }
@@ -73,17 +67,19 @@ fn counter_order(v: View, disabled: bool, trap_bit: bool, rule5: bool) -> Stop
 }
 
 // The order of traps for PMEVCNTR<m>.
+#[tactic(auto, unfolding(rules::specs::Traps::stop_of, rules::specs::Traps::rules_of, rules::specs::Traps::counter_order))]
 pub fn pmevcntr_stop(v: View, read: bool, m: u64) -> Stop
     ensures { result ≡ stop_of v (Pmevcntr m) read }
 {
     let s = v.settings;
-    let disabled = bits::select(read, !s.pmuserenr.en & !s.pmuserenr.er, !s.pmuserenr.en);
-    let trap_bit = bits::select(read, s.hdfgrtr.pmevcntrn, s.hdfgwtr.pmevcntrn);
-    let inaccessible = s.execution.el2enabled & (v.level <= 1) & (s.mdcr2.hpmn <= m);
+    let disabled = bits::pick(read, !s.pmuserenr.en & !s.pmuserenr.er, !s.pmuserenr.en);
+    let trap_bit = bits::pick(read, s.hdfgrtr.pmevcntrn, s.hdfgwtr.pmevcntrn);
+    let inaccessible = v.below_el2() & (s.mdcr2.hpmn <= m);
     counter_order(v, disabled, trap_bit, inaccessible)
 }
 
 // The order of traps for PMSWINC, that of MSR. (MRS of it is undefined at once.)
+#[tactic(auto, unfolding(rules::specs::Traps::stop_of, rules::specs::Traps::rules_of, rules::specs::Traps::counter_order))]
 pub fn pmswinc_stop(v: View) -> Stop
     ensures { result ≡ stop_of v Pmswinc false }
 {

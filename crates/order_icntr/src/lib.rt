@@ -11,25 +11,20 @@ use rules::Stop;
 use state::View;
 
 // The order for PMICNTR, from the fine-grained bit of the direction, by which the access is allowed.
+#[tactic(auto, unfolding(rules::specs::Traps::icntr_order, rules::specs::Traps::icntr_rules))]
 fn icntr_order(v: View, allowed: bool) -> Stop
     ensures { result ≡ icntr_order v allowed }
 {
-    let level = v.level;
     let s = v.settings;
-    let el2 = s.execution.el2enabled;
-    let el3 = s.features.el3;
-    let halted_sdd = s.execution.halted & s.execution.sdd;
-    let not_host_el0 = !((level == 0) & s.hcr.e2h & s.hcr.tge);
-    let rule1 = el3
-        & (level <= 2)
-        & halted_sdd
-        & s.features.el3prio
-        & (!s.mdcr3.enpm2 | s.mdcr3.tpm);
-    let rule2 = el2 & (level <= 1) & not_host_el0 & s.features.fgt2 & el3 & !s.scr.fgten2;
-    let rule3 = el2 & (level <= 1) & not_host_el0 & s.features.fgt2 & !allowed;
-    let rule4 = el2 & (level <= 1) & s.mdcr2.tpm;
-    let rule5 = el3 & (level <= 2) & !s.mdcr3.enpm2;
-    let rule6 = el3 & (level <= 2) & s.mdcr3.tpm;
+    let has = s.features;
+    let enpm2 = s.mdcr3.enpm2;
+    let tpm = s.mdcr3.tpm;
+    let rule1 = v.below_el3() & v.halted_sdd() & has.el3prio & (!enpm2 | tpm);
+    let rule2 = v.below_el2() & v.not_host_el0() & has.fgt2 & has.el3 & !s.scr.fgten2;
+    let rule3 = v.below_el2() & v.not_host_el0() & has.fgt2 & !allowed;
+    let rule4 = v.below_el2() & s.mdcr2.tpm;
+    let rule5 = v.below_el3() & !enpm2;
+    let rule6 = v.below_el3() & tpm;
     if rule1 {
         return Stop::Undef;
     }
@@ -52,10 +47,11 @@ fn icntr_order(v: View, allowed: bool) -> Stop
 }
 
 // The order of traps for PMICNTR.
+#[tactic(auto, unfolding(rules::specs::Traps::stop_of, rules::specs::Traps::rules_of, rules::specs::Traps::icntr_order))]
 pub fn pmicntr_stop(v: View, read: bool) -> Stop
     ensures { result ≡ stop_of v Pmicntr read }
 {
     let s = v.settings;
-    let allowed = bits::select(read, s.hdfgrtr.npmicntr, s.hdfgwtr.npmicntr);
+    let allowed = bits::pick(read, s.hdfgrtr.npmicntr, s.hdfgwtr.npmicntr);
     icntr_order(v, allowed)
 }

@@ -13,28 +13,24 @@ use state::View;
 fn nspb_bars(v: View) -> bool
     ensures { result ≡ nspb_bars v }
 {
-    let nspb = v.settings.mdcr3.nspb;
-    let ns = v.settings.scr.ns;
-    let bit0 = bits::bit(0, nspb);
-    let bit1 = bits::bit(1, nspb);
-    !bit0 | ((bit1 & !ns) | (!bit1 & ns))
+    let s = v.settings;
+    let nspb = s.mdcr3.nspb;
+    !bits::bit(0, nspb) | (bits::bit(1, nspb) != s.scr.ns)
 }
 
 // The order of traps for PMSICR.
+#[tactic(auto, unfolding(rules::specs::Traps::stop_of, rules::specs::Traps::rules_of, rules::specs::Traps::pmsicr_rules))]
 pub fn pmsicr_stop(v: View, read: bool) -> Stop
     ensures { result ≡ stop_of v Pmsicr read }
 {
-    let level = v.level;
     let s = v.settings;
-    let el2 = s.execution.el2enabled;
-    let el3 = s.features.el3;
+    let has = s.features;
     let bars = nspb_bars(v);
-    let trap_bit = bits::select(read, s.hdfgrtr.pmsicr, s.hdfgwtr.pmsicr);
-    let halted_sdd = s.execution.halted & s.execution.sdd;
-    let rule1 = el3 & (level <= 2) & halted_sdd & s.features.el3prio & bars;
-    let rule2 = el2 & (level <= 1) & s.features.fgt & (!el3 | s.scr.fgten) & trap_bit;
-    let rule3 = el2 & (level <= 1) & s.mdcr2.tpms;
-    let rule4 = el3 & (level <= 2) & bars;
+    let trap_bit = bits::pick(read, s.hdfgrtr.pmsicr, s.hdfgwtr.pmsicr);
+    let rule1 = v.below_el3() & v.halted_sdd() & has.el3prio & bars;
+    let rule2 = v.below_el2() & has.fgt & (!has.el3 | s.scr.fgten) & trap_bit;
+    let rule3 = v.below_el2() & s.mdcr2.tpms;
+    let rule4 = v.below_el3() & bars;
     if rule1 {
         return Stop::Undef;
     }

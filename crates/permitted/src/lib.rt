@@ -12,6 +12,7 @@ use rules::{Decision, Instruction, Place, Register};
 use state::View;
 
 // A permitted access of a place that may be denied to EL0, or only read.
+#[tactic(auto, unfolding(rules::specs::Permitted::place_access))]
 fn place_access(
     is_denied: bool,
     is_read_only: bool,
@@ -25,16 +26,13 @@ fn place_access(
         if is_denied {
             return Decision::Says(Answer::Mrs { value: 0, rt: i.rt });
         }
-        return Decision::Read {
-            place: place,
-            rt: i.rt,
-        };
+        return Decision::Read { place, rt: i.rt };
     }
     if is_denied | is_read_only {
         return Decision::Says(Answer::Ok);
     }
     Decision::Write {
-        place: place,
+        place,
         value: word::written(i, x),
     }
 }
@@ -53,12 +51,9 @@ fn add_mask(v: View, x: u64) -> u64
 {
     let s = v.settings;
     let implemented = bits::below(s.features.n, enabled::enabled_counters(s) & x);
-    let el2_limits = s.execution.el2enabled & (v.level <= 1);
-    let accessible = bits::below_where(el2_limits, s.mdcr2.hpmn, implemented);
-    if pmuacr_binds(v) & !s.pmuserenr.sw {
-        return accessible & s.pmuacr.p;
-    }
-    accessible
+    let accessible = bits::below_where(v.below_el2(), s.mdcr2.hpmn, implemented);
+    let holds_back = pmuacr_binds(v) & !s.pmuserenr.sw;
+    bits::pick(holds_back, accessible & s.pmuacr.p, accessible)
 }
 
 // Where an access of PMSICR goes: to the word at 0x838 at EL1, with EL2 enabled and NV and NV2 both 1, else to the register.

@@ -6,7 +6,8 @@ ghost use Rattle.std.specs.Prelude.{◌≡◌};
 ghost use Rattle.pmsicr.specs.Pmsicr.{secondary, implemented, with_primary, with_secondary, started};
 ghost use Rattle.pmsicr.specs.Pmsicr.{secondary_counts, primary_counts, counted};
 
-// The register after a member of the sample population, and whether the member is selected.
+// The register after a member of the sample population, and whether the member is selected. What decides about it stays apart:
+// ERnd is one of the features, RND and the reload value are of Sampling, so a struct of them would be made to be taken apart.
 #[derive(Clone, Copy)]
 pub struct Member {
     pub selected: bool,
@@ -21,6 +22,7 @@ fn secondary(ernd: bool, x: u64) -> u64
 }
 
 // The implemented bits of x: the reserved ones are 0.
+#[tactic(auto, unfolding(crate::specs::Pmsicr::implemented))]
 pub fn implemented(ernd: bool, x: u64) -> u64
     ensures { result ≡ implemented ernd x }
 {
@@ -31,6 +33,7 @@ pub fn implemented(ernd: bool, x: u64) -> u64
 }
 
 // The register with its primary counter put to n.
+#[tactic(auto, unfolding(crate::specs::Pmsicr::with_primary))]
 fn with_primary(n: u64, x: u64) -> u64
     ensures { result ≡ with_primary n x }
 {
@@ -38,6 +41,7 @@ fn with_primary(n: u64, x: u64) -> u64
 }
 
 // The register with its secondary counter put to n.
+#[tactic(auto, unfolding(crate::specs::Pmsicr::with_secondary))]
 fn with_secondary(n: u64, x: u64) -> u64
     ensures { result ≡ with_secondary n x }
 {
@@ -45,6 +49,7 @@ fn with_secondary(n: u64, x: u64) -> u64
 }
 
 // The register when profiling begins: where it is zero, its primary counter is reloaded.
+#[tactic(auto, unfolding(crate::specs::Pmsicr::started))]
 pub fn started(ernd: bool, reload: u64, x: u64) -> u64
     ensures { result ≡ started ernd reload x }
 {
@@ -55,6 +60,7 @@ pub fn started(ernd: bool, reload: u64, x: u64) -> u64
 }
 
 // The secondary counter's part in a member.
+#[tactic(auto, unfolding(crate::specs::Pmsicr::secondary_counts))]
 fn secondary_counts(ernd: bool, x: u64) -> Member
     ensures { result ≡ secondary_counts ernd x }
 {
@@ -72,6 +78,7 @@ fn secondary_counts(ernd: bool, x: u64) -> Member
 }
 
 // The primary counter's part, behind that of the secondary one.
+#[tactic(auto, unfolding(crate::specs::Pmsicr::primary_counts))]
 fn primary_counts(ernd: bool, rnd: bool, reload: u64, draw: u64, x: u64) -> Member
     ensures { result ≡ primary_counts ernd rnd reload draw x }
 {
@@ -102,6 +109,7 @@ fn primary_counts(ernd: bool, rnd: bool, reload: u64, draw: u64, x: u64) -> Memb
 }
 
 // A member of the sample population, with a draw, while profiling is enabled.
+#[tactic(auto, unfolding(crate::specs::Pmsicr::counted))]
 pub fn counted(ernd: bool, rnd: bool, reload: u64, draw: u64, x: u64) -> Member
     ensures { result ≡ counted ernd rnd reload draw x }
 {

@@ -45,7 +45,7 @@ fn tick(m: &mut [u64; 143], prohibited: u8) -> Answer
 pub extern "C" fn pmu_fresh(m: &mut [u64; 143])
     ensures { (m.new ≡ replicate word_count 0) × (record_of m.new ≡ fresh) }
 {
-    calls_fields::word::fresh(m);
+    calls_fields::fresh(m);
 }
 
 // The set command.
@@ -56,7 +56,7 @@ pub extern "C" fn pmu_set(m: &mut [u64; 143], field: u8, value: u64) -> Reply
         result
         m.new }
 {
-    reply::reply_of(calls_fields::set(m, field, value))
+    Reply::from(calls_fields::set(m, field, value))
 }
 
 // The level command.
@@ -64,7 +64,7 @@ pub extern "C" fn pmu_set(m: &mut [u64; 143], field: u8, value: u64) -> Reply
 pub extern "C" fn pmu_level(m: &mut [u64; 143], level: u8) -> Reply
     ensures { Replied (set_level level (record_of m.old)) words_levelled m.old result m.new }
 {
-    reply::reply_of(calls_fields::level(m, level))
+    Reply::from(calls_fields::level(m, level))
 }
 
 // The external read at an offset.
@@ -72,7 +72,7 @@ pub extern "C" fn pmu_level(m: &mut [u64; 143], level: u8) -> Reply
 pub extern "C" fn pmu_external_read(m: &mut [u64; 143], offset: u16) -> Reply
     ensures { Replied (call_of (external_read offset) m.old) put m.old result m.new }
 {
-    reply::reply_of(respond(m, Request::Read(offset)))
+    Reply::from(respond(m, Request::Read(offset)))
 }
 
 // The external write of a value at an offset.
@@ -80,7 +80,7 @@ pub extern "C" fn pmu_external_read(m: &mut [u64; 143], offset: u16) -> Reply
 pub extern "C" fn pmu_external_write(m: &mut [u64; 143], offset: u16, value: u64) -> Reply
     ensures { Replied (call_of (external_write offset value) m.old) put m.old result m.new }
 {
-    reply::reply_of(respond(m, Request::Write { offset, value }))
+    Reply::from(respond(m, Request::Write { offset, value }))
 }
 
 // One executed instruction, where counting may be prohibited.
@@ -88,7 +88,7 @@ pub extern "C" fn pmu_external_write(m: &mut [u64; 143], offset: u16, value: u64
 pub extern "C" fn pmu_tick(m: &mut [u64; 143], prohibited: u8) -> Reply
     ensures { Replied (tick_call prohibited m.old) put m.old result m.new }
 {
-    reply::reply_of(tick(m, prohibited))
+    Reply::from(tick(m, prohibited))
 }
 
 // A member of the sample population, with a draw.
@@ -96,5 +96,5 @@ pub extern "C" fn pmu_tick(m: &mut [u64; 143], prohibited: u8) -> Reply
 pub extern "C" fn pmu_sample(m: &mut [u64; 143], draw: u8) -> Reply
     ensures { Replied (call_of (member draw) m.old) put m.old result m.new }
 {
-    reply::reply_of(respond(m, Request::Member(draw)))
+    Reply::from(respond(m, Request::Member(draw)))
 }

@@ -1,5 +1,6 @@
 // The calls that also list what they did, in words of the caller's for the undo list, and the step back. What is listed, what
-// empties the list and what leaves it alone is as in a session.
+// empties the list and what leaves it alone is as in a session. Each has a twin without a list in lib.rt: both are C's
+// (bindings/pmu_calls.h).
 ghost use Rattle.std.specs.Prelude.{◌≡◌};
 ghost use Rattle.calls.specs.Listed.{Listed, Emptied, SteppedBack};
 ghost use Rattle.calls.specs.Replied.{Replied, tick_call};
@@ -15,13 +16,14 @@ use answer::Refusal;
 use reply::Reply;
 use rules::external::Request;
 use undo::Undo;
-use undo_words::Recalled;
+use words::decode;
 
 // What is kept of a call, from the words before it: a field and what it held, the level and the overflow flags.
+#[tactic(auto, unfolding(words::specs::Words::record_of))]
 fn kept(m: &[u64; 143], field: u8, old: u64) -> Undo
     ensures { result ≡ undo_of (held field old) (record_of m.now) }
 {
-    undo::kept(field, old, (m[0x8E] % 0x100) as u8, m[0x37])
+    undo::kept(field, old, decode::level(m), m[0x37])
 }
 
 // The set command, which empties the list unless it is refused.
@@ -43,7 +45,7 @@ pub extern "C" fn pmu_set_listed(
 {
     let a = calls_fields::set(m, field, value);
     undo_list::forget(a, list);
-    reply::reply_of(a)
+    Reply::from(a)
 }
 
 // The level command, listed.
@@ -59,7 +61,7 @@ pub extern "C" fn pmu_level_listed(m: &mut [u64; 143], list: &mut [u64; 194], le
     let u = kept(m, undo::NOTHING, 0);
     let a = calls_fields::level(m, level);
     undo_list::note(a, u, 0, list);
-    reply::reply_of(a)
+    Reply::from(a)
 }
 
 // The external write, listed.
@@ -77,11 +79,10 @@ pub extern "C" fn pmu_external_write_listed(
         list.old
         list.new }
 {
-    let old = m[0x34];
-    let u = kept(m, 0x34, old);
+    let u = kept(m, 0x34, m[0x34]);
     let a = crate::respond(m, Request::Write { offset, value });
     undo_list::note(a, u, 0, list);
-    reply::reply_of(a)
+    Reply::from(a)
 }
 
 // The tick, listed.
@@ -98,11 +99,10 @@ pub extern "C" fn pmu_tick_listed(
         list.old
         list.new }
 {
-    let old = m[0x7F];
-    let u = kept(m, 0x7F, old);
+    let u = kept(m, 0x7F, m[0x7F]);
     let a = crate::tick(m, prohibited);
     undo_list::note(a, u, 0, list);
-    reply::reply_of(a)
+    Reply::from(a)
 }
 
 // The member of the sample population, listed.
@@ -115,11 +115,10 @@ pub extern "C" fn pmu_sample_listed(m: &mut [u64; 143], list: &mut [u64; 194], d
         list.old
         list.new }
 {
-    let old = m[0x8C];
-    let u = kept(m, 0x8C, old);
+    let u = kept(m, 0x8C, m[0x8C]);
     let a = crate::respond(m, Request::Member(draw));
     undo_list::note(a, u, 0, list);
-    reply::reply_of(a)
+    Reply::from(a)
 }
 
 // The step back: what was kept of the latest listed call is put back. Refused with 18 where none is listed.
@@ -127,12 +126,10 @@ pub extern "C" fn pmu_sample_listed(m: &mut [u64; 143], list: &mut [u64; 194], d
 pub extern "C" fn pmu_back(m: &mut [u64; 143], list: &mut [u64; 194]) -> Reply
     ensures { SteppedBack m.old list.old result m.new list.new }
 {
-    let latest = undo_words::recall(list);
-    match latest {
-        Recalled::Nothing => reply::refused(Refusal::NothingToUndo),
-        Recalled::Latest(e) => {
-            let u = e.undo;
-            calls_fields::back::undone(m, u);
+    match undo_words::recall(list) {
+        None => reply::refused(Refusal::NothingToUndo),
+        Some(e) => {
+            calls_fields::back::undone(m, e.undo);
             reply::done()
         }
     }

@@ -30,58 +30,51 @@ fn plain(kind: u32) -> Reply
     }
 }
 
+// An answer in numbers.
+impl From<Answer> for Reply {
+    ghost from_gives = { λ a r. r ≡ reply_of a };
+
+    fn from(a: Answer) -> Reply {
+        match a {
+            Answer::Ok => plain(1),
+            Answer::Sampled => plain(2),
+            Answer::End => plain(3),
+            Answer::Undef => plain(4),
+            Answer::Other => plain(5),
+            Answer::Error => plain(6),
+            Answer::Trap(t) => Reply {
+                kind: 7,
+                detail: u8::from(t.target) as u16,
+                cause: u8::from(t.cause) as u16,
+                value: t.syndrome as u64,
+            },
+            Answer::Value(x) => Reply {
+                value: x,
+                ..plain(8)
+            },
+            Answer::Mrs { value, rt } => Reply {
+                detail: rt as u16,
+                value,
+                ..plain(9)
+            },
+            Answer::Refused(n) => Reply {
+                detail: u8::from(n) as u16,
+                ..plain(10)
+            },
+        }
+    }
+}
+
 // `ok` in numbers.
 pub fn done() -> Reply
     ensures { result ≡ reply_of Answer.Ok }
 {
-    plain(1)
+    Reply::from(Answer::Ok)
 }
 
 // A refusal in numbers.
 pub fn refused(n: Refusal) -> Reply
     ensures { result ≡ reply_of (Answer.Refused n) }
 {
-    Reply {
-        kind: 10,
-        detail: answer::refusal_number(n) as u16,
-        cause: 0,
-        value: 0,
-    }
-}
-
-// An answer in numbers.
-pub fn reply_of(a: Answer) -> Reply
-    ensures { result ≡ reply_of a }
-{
-    match a {
-        Answer::Ok => plain(1),
-        Answer::Sampled => plain(2),
-        Answer::End => plain(3),
-        Answer::Undef => plain(4),
-        Answer::Other => plain(5),
-        Answer::Error => plain(6),
-        Answer::Trap(t) => {
-            let target = t.target;
-            let cause = t.cause;
-            Reply {
-                kind: 7,
-                detail: answer::level_number(target) as u16,
-                cause: answer::cause_number(cause) as u16,
-                value: t.syndrome as u64,
-            }
-        }
-        Answer::Value(x) => Reply {
-            kind: 8,
-            detail: 0,
-            cause: 0,
-            value: x,
-        },
-        Answer::Mrs { value, rt } => Reply {
-            kind: 9,
-            detail: rt as u16,
-            cause: 0,
-            value: value,
-        },
-        Answer::Refused(n) => refused(n),
-    }
+    Reply::from(Answer::Refused(n))
 }

@@ -46,7 +46,10 @@ module _ (f : ℕ → ℕ → ℕ) where
   pub sweep-map :
       (i : ℕ) (l : List ℕ) → ((j y : ℕ) → i ≤ j → j < length l → f j y ≡ y) → sweep i l ≡ map_from f 0 l
   sweep-map i l idle = ext_get_or 0 (sweep i l) (map_from f 0 l) (length-sweep i l ∙ sym (length-map_from f 0 l))
-      (λ j h. at j (omega (arith, length-sweep i l)) (ltb j i) refl ∙ sym (get_or-map_from f l j (omega (arith, length-sweep i l))))
+      (λ j h. at j (omega (arith, length-sweep i l)) (ltb j i) refl ∙ sym (get_or-map_from f l j (omega (
+        arith,
+        length-sweep i l,
+      ))))
     where
       at : (j : ℕ) → j < length l → (b : Bool) → ltb j i ≡ b → get_or (sweep i l) j 0 ≡ f j (get_or l j 0)
       at j h true t = behind i l j (ltb-true j i t) h

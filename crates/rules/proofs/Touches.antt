@@ -8,8 +8,8 @@ use Rattle.bits.specs.Bits.{bit}
 use Rattle.machine.proofs.Bools.{chosen}
 use Rattle.machine.specs.First.{first}
 use Rattle.machine.proofs.First.{test_at, gives, some-held}
-use Rattle.state.specs.declared.Verdict.{Verdict}
-use Rattle.state.specs.declared.Verdict.TheVariants.{Consistent, Refused}
+use Rattle.std.specs.Prelude.{Result, ⊤, Ok, Err}
+use Rattle.answer.specs.declared.Refusal.{Refusal}
 use Rattle.state.specs.declared.View.{View}
 use Rattle.state.specs.State.{verdict_of}
 use Rattle.rules.specs.declared.Decision.{Decision}
@@ -61,9 +61,9 @@ module _ (p : Place) where
   through-stop syndrome Stop.Undef d n = refl
   through-stop syndrome (Stop.Trap l c) d n = refl
 
-  through-refusal : (t : Verdict) (d : Decision) → touches p d ≡ false → touches p (unless_refused t d) ≡ false
-  through-refusal Consistent d n = n
-  through-refusal (Refused r) d n = refl
+  through-refusal : (t : Result ⊤ Refusal) (d : Decision) → touches p d ≡ false → touches p (unless_refused t d) ≡ false
+  through-refusal (Ok _) d n = n
+  through-refusal (Err r) d n = refl
 
   -- an access of another place
   pub other_place :

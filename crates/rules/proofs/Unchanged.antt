@@ -5,14 +5,14 @@ use mathlib.Core.Bool.{Bool}
 use mathlib.Core.Path.{◌≡◌}
 use Rattle.answer.specs.declared.Refusal.{Refusal}
 use Rattle.machine.specs.declared.Machine.{Machine}
-use Rattle.state.specs.declared.Verdict.TheVariants.{Refused}
+use Rattle.std.specs.Prelude.{Err}
 use Rattle.machine.specs.Outcome.{refused}
 use Rattle.state.specs.State.{view_of, verdict_of}
 use Rattle.rules.specs.External.{external_read, external_write, tick, member}
 use Rattle.rules.specs.Apply.{apply}
 use Rattle.rules.specs.Step.{decide, step}
 
-module _ (n : Refusal) (r : Machine) (e : verdict_of (view_of r) ≡ Refused n) where
+module _ (n : Refusal) (r : Machine) (e : verdict_of (view_of r) ≡ Err n) where
   pub step-refused : (w x : ℕ) → step w x r ≡ refused n r
   unfolding decide apply step
   step-refused w x = rw e

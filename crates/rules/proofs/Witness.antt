@@ -71,7 +71,8 @@ start-five = record { sized = refl; consistent = refl }
 others :
     (named : Named) → named (Counter 5) ≡ true → (p : Place) → is_place p ≡ true → named p ≡ false
     → value_at p one ≡ value_at p two
-unfolding one two largest set store store_settings store_features store_mdcr2 store_mdcr3 store_pmuacr store_sampling set_all usual
+unfolding one two largest set store store_settings store_features store_mdcr2 store_mdcr3 store_pmuacr store_sampling set_all
+    usual
 others named five (Counter zero) h e = refl
 others named five (Counter (suc zero)) h e = refl
 others named five (Counter (suc (suc zero))) h e = refl
@@ -86,7 +87,8 @@ others named five Nvmem h e = refl
 -- places other than the instruction counter are equal in the first and the third
 all-but-instructions :
     (p : Place) → is_place p ≡ true → instruction_counter one.settings p ≡ false → value_at p one ≡ value_at p three
-unfolding one three largest set store store_settings store_features store_mdcr2 store_mdcr3 store_pmuacr store_sampling set_all usual
+unfolding one three largest set store store_settings store_features store_mdcr2 store_mdcr3 store_pmuacr store_sampling set_all
+    usual
 all-but-instructions (Counter m) h e = refl
 all-but-instructions Instructions h e = absurd (false≢true (sym e))
 all-but-instructions Interval h e = refl
@@ -95,7 +97,8 @@ all-but-instructions Nvmem h e = refl
 -- places other than PMSICR and the word at 0x838 are equal in the first and the fifth
 all-but-sampling :
     (p : Place) → is_place p ≡ true → sampling_counter one.settings p ≡ false → value_at p one ≡ value_at p five
-unfolding one five largest set store store_settings store_features store_mdcr2 store_mdcr3 store_pmuacr store_sampling set_all usual
+unfolding one five largest set store store_settings store_features store_mdcr2 store_mdcr3 store_pmuacr store_sampling set_all
+    usual
 all-but-sampling (Counter m) h e = refl
 all-but-sampling Instructions h e = refl
 all-but-sampling Interval h e = absurd (false≢true (sym e))
@@ -103,7 +106,8 @@ all-but-sampling Nvmem h e = absurd (false≢true (sym e))
 
 from-hpmn :
     (accesses : List Access) → from_levels 1 accesses ≡ true → Isolated (from_hpmn one.settings) accesses one two
-unfolding one two largest set store store_settings store_features store_mdcr2 store_mdcr3 store_pmuacr store_sampling set_all usual
+unfolding one two largest set store store_settings store_features store_mdcr2 store_mdcr3 store_pmuacr store_sampling set_all
+    usual
 from-hpmn accesses l =
     noninterference.hpmn one two accesses start-one start-two refl l
     (record {
@@ -116,7 +120,8 @@ from-hpmn accesses l =
 
 without-p :
     (accesses : List Access) → from_levels 0 accesses ≡ true → Isolated (without_p one.settings) accesses one two
-unfolding one two largest set store store_settings store_features store_mdcr2 store_mdcr3 store_pmuacr store_sampling set_all usual
+unfolding one two largest set store store_settings store_features store_mdcr2 store_mdcr3 store_pmuacr store_sampling set_all
+    usual
 without-p accesses l =
     noninterference.pmuacr one two accesses start-one start-two refl l
     (record {
@@ -130,7 +135,8 @@ without-p accesses l =
 instructions :
     (accesses : List Access) → from_levels 0 accesses ≡ true
     → Isolated (instruction_counter one.settings) accesses one three
-unfolding one three largest set store store_settings store_features store_mdcr2 store_mdcr3 store_pmuacr store_sampling set_all usual
+unfolding one three largest set store store_settings store_features store_mdcr2 store_mdcr3 store_pmuacr store_sampling set_all
+    usual
 instructions accesses l =
     noninterference.f0 one three accesses start-one start-three refl l
     (record {
@@ -143,7 +149,8 @@ instructions accesses l =
 
 sampling :
     (accesses : List Access) → from_levels 0 accesses ≡ true → Isolated (sampling_counter one.settings) accesses one five
-unfolding one five largest set store store_settings store_features store_mdcr2 store_mdcr3 store_pmuacr store_sampling set_all usual
+unfolding one five largest set store store_settings store_features store_mdcr2 store_mdcr3 store_pmuacr store_sampling set_all
+    usual
 sampling accesses l =
     noninterference.sampling one five accesses start-one start-five refl l
     (record {
@@ -157,9 +164,11 @@ sampling accesses l =
 unseen :
     (accesses : List Access) → from_levels 0 accesses ≡ true
     → AlikeButSampling one five (run accesses one) (run accesses five)
-unfolding one five largest set store store_settings store_features store_mdcr2 store_mdcr3 store_pmuacr store_sampling set_all usual
+unfolding one five largest set store store_settings store_features store_mdcr2 store_mdcr3 store_pmuacr store_sampling set_all
+    usual
 unseen accesses l = sampling-unseen one five accesses l refl
 
 flags : (accesses : List Access) → AlikeButOvs one.values.ovs four.values.ovs (run accesses one) (run accesses four)
-unfolding one four largest set store store_settings store_features store_mdcr2 store_mdcr3 store_pmuacr store_sampling set_all usual
+unfolding one four largest set store store_settings store_features store_mdcr2 store_mdcr3 store_pmuacr store_sampling set_all
+    usual
 flags accesses = overflow-claims.unread one four accesses start-one start-four refl

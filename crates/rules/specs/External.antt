@@ -1,13 +1,12 @@
 -- External accesses, ticks and members. What each offset's register shows, sets and clears; how far an access at an offset gets,
 -- where each test stands once; what a read, a write, a tick or a member is then to do, in one place; and the doing.
-use Rattle.std.specs.Prelude.{ℕ, Bool, true, false, cond, not, ◌&&◌, ◌||◌, List, [], ◌∷◌, ltb, eqb}
+use Rattle.std.specs.Prelude.{ℕ, Bool, true, false, cond, not, ◌&&◌, ◌||◌, List, [], ◌∷◌, ltb, eqb, Result, Ok, Err, ⊤}
 use Rattle.answer.specs.declared.Answer.{Answer}
 use Rattle.machine.specs.declared.Machine.{Machine}
 use Rattle.machine.specs.declared.Outcome.{Outcome}
 use Rattle.machine.specs.declared.Settings.{Settings}
 use Rattle.state.specs.declared.View.{View}
-use Rattle.state.specs.declared.Verdict.{Verdict}
-use Rattle.state.specs.declared.Verdict.TheVariants.{Consistent, Refused}
+use Rattle.answer.specs.declared.Refusal.{Refusal}
 use Rattle.machine.specs.First.{first}
 use Rattle.machine.specs.Machine.{with_instructions, with_ovs, with_pmsicr}
 use Rattle.machine.specs.Outcome.{says, done}
@@ -111,9 +110,9 @@ effect_of (Tick prohibited) s = tick_of prohibited s
 effect_of (Member draw) s = member_of draw s
 
 -- MODEL V3: a refused record comes before all else
-abbrev pub unless_refused_by : Verdict → Effect → Effect
-unless_refused_by Consistent e = e
-unless_refused_by (Refused n) e = Says (Answer.Refused n)
+abbrev pub unless_refused_by : Result ⊤ Refusal → Effect → Effect
+unless_refused_by (Ok _) e = e
+unless_refused_by (Err n) e = Says (Answer.Refused n)
 
 -- MODEL E9 and V3: the effect of a request on any record
 abbrev pub judge : View → Request → Effect

@@ -1,9 +1,8 @@
 -- Two machines under one list: the claim of demand 3, about whole lists of accesses and about the very step of
 -- specs/Step.antt. Its proof is proofs/Isolation.antt; nothing here depends on it.
-use Rattle.std.specs.Prelude.{ℕ, Bool, true, false, not, ◌&&◌, ◌||◌, List, [], ◌∷◌, ◌≡◌, leb, eqb, length}
+use Rattle.std.specs.Prelude.{ℕ, Bool, true, false, not, ◌&&◌, ◌||◌, List, [], ◌∷◌, ◌≡◌, leb, eqb, length, Ok}
 use Rattle.machine.specs.declared.Machine.{Machine}
 use Rattle.machine.specs.declared.Settings.{Settings}
-use Rattle.state.specs.declared.Verdict.TheVariants.{Consistent}
 use Rattle.machine.specs.Machine.{with_level}
 use Rattle.state.specs.State.{view_of, verdict_of}
 use Rattle.bits.specs.Bits.{bit}
@@ -56,13 +55,13 @@ Kept x start after = (p : Place) → is_place p ≡ true → x p ≡ true → va
 -- MODEL M3: a start record, consistent with its level put to 0. A record of the code has 31 event counters by its type
 pub record Start (r : Machine) : Type 0 where
   pub sized : length r.counters ≡ 31
-  pub consistent : verdict_of (view_of (with_level 0 r)) ≡ Consistent
+  pub consistent : verdict_of (view_of (with_level 0 r)) ≡ Ok tt
 
 -- MODEL M3: a record that is consistent at its own level: `consistent-start` of proofs/Isolation.antt shows that it meets
 -- `Start`
 pub record ConsistentMachine (r : Machine) : Type 0 where
   pub sized : length r.counters ≡ 31
-  pub consistent : verdict_of (view_of r) ≡ Consistent
+  pub consistent : verdict_of (view_of r) ≡ Ok tt
 
 -- MODEL M7 to M9 and M14: every access of the list is from level top or below
 abbrev pub from_levels : ℕ → List Access → Bool

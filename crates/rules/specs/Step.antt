@@ -1,12 +1,11 @@
 -- The by-value step: decide, by a view in which there is no counter, then apply; and a list of accesses, each with its own
 -- level.
-use Rattle.std.specs.Prelude.{ℕ, Bool, false, cond, not, ◌||◌, List, [], ◌∷◌, leb}
+use Rattle.std.specs.Prelude.{ℕ, Bool, false, cond, not, ◌||◌, List, [], ◌∷◌, leb, Result, Ok, Err, ⊤}
 use Rattle.answer.specs.declared.Answer.{Answer}
 use Rattle.machine.specs.declared.Machine.{Machine}
 use Rattle.machine.specs.declared.Outcome.{Outcome}
 use Rattle.machine.specs.Machine.{with_level}
-use Rattle.state.specs.declared.Verdict.{Verdict}
-use Rattle.state.specs.declared.Verdict.TheVariants.{Consistent, Refused}
+use Rattle.answer.specs.declared.Refusal.{Refusal}
 use Rattle.state.specs.declared.View.{View}
 use Rattle.state.specs.State.{view_of, verdict_of}
 use Rattle.rules.specs.declared.Decision.{Decision}
@@ -49,9 +48,9 @@ decide_register v r i x =
     (unless_stopped i.syndrome (stop_of v r i.read) (permitted v r i x))
 
 -- MODEL V3: a refused record comes before all else
-abbrev pub unless_refused : Verdict → Decision → Decision
-unless_refused Consistent d = d
-unless_refused (Refused r) d = Says (Answer.Refused r)
+abbrev pub unless_refused : Result ⊤ Refusal → Decision → Decision
+unless_refused (Ok _) d = d
+unless_refused (Err r) d = Says (Answer.Refused r)
 
 -- MODEL A2 and X4: what the access with instruction i, a word taken apart, and operand x is to do
 abbrev pub decide_decoded : View → Instruction → ℕ → Decision

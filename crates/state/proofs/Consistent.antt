@@ -1,14 +1,13 @@
 -- A consistent record passes every test; and it is consistent at level 0 too.
 use Prim.Native.Nat.{ℕ, ◌≤◌}
-use mathlib.Core.Bool.{Bool, true, false, ◌||◌, or-false}
+use mathlib.Core.Bool.{Bool, false, ◌||◌, or-false}
 use mathlib.Core.Path.{◌≡◌, refl, ◌∙◌}
 use borrow.Author.Tests.{ltb-false}
 use lib.Dec.{ltb}
 use Rattle.fields.specs.Largest.{largest, exceeds, largest_level}
 use Rattle.machine.proofs.Bools.{or_left, or_right}
 use Rattle.machine.proofs.First.{test_at, all-fell}
-use Rattle.state.specs.declared.Verdict.{Verdict}
-use Rattle.state.specs.declared.Verdict.TheVariants.{Consistent, Refused}
+use Rattle.std.specs.Prelude.{Ok, is_ok}
 use Rattle.state.specs.declared.View.{View}
 use Rattle.state.specs.State.{too_large, refusals, verdict_of}
 
@@ -22,15 +21,11 @@ numbers_large v =
     || exceeds v.settings.mdcr3.nspb 0x88
     || exceeds v.settings.sampling.reload 0x8B
 
-is_consistent : Verdict → Bool
-is_consistent Consistent = true
-is_consistent (Refused n) = false
-
-module _ (v : View) (e : verdict_of v ≡ Consistent) where
+module _ (v : View) (e : verdict_of v ≡ Ok tt) where
   -- no row of the table applies
   pub passed : (i : ℕ) → test_at i (refusals v) ≡ false
-  unfolding verdict_of refusals is_consistent
-  passed = all-fell is_consistent Consistent (refusals v) refl (rw e)
+  unfolding verdict_of refusals
+  passed = all-fell is_ok (Ok tt) (refusals v) refl (rw e)
 
   -- N is at most 31
   pub n-fits : v.settings.features.n ≤ 31
@@ -69,7 +64,7 @@ large-at-0 v e =
 
 -- a record that is consistent at some level is so at level 0: the tests of rows 0, 2, 3, 4, 5 and 7 do not look at the
 -- level, or ask for one above
-pub consistent-at-0 : (v : View) → verdict_of v ≡ Consistent → verdict_of (levelled_to0 v) ≡ Consistent
+pub consistent-at-0 : (v : View) → verdict_of v ≡ Ok tt → verdict_of (levelled_to0 v) ≡ Ok tt
 unfolding verdict_of refusals
 consistent-at-0 v e =
     let p = passed v e in rw (large-at-0 v (p 0), p 2, p 3, p 4, p 5, p 7)

@@ -1,3 +1,2 @@
 -- The laws of the crate `state`.
-pub mod Wide
 pub mod Consistent

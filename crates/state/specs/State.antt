@@ -1,5 +1,6 @@
 -- The state refusals 10 to 17, as tests on what a decision may look at.
-use Rattle.std.specs.Prelude.{ℕ, ◌^◌, Bool, false, not, ◌&&◌, ◌||◌, List, [], ◌∷◌, leb, ltb, eqb}
+use Rattle.std.specs.Prelude.{ℕ, ◌^◌, Bool, false, not, ◌&&◌, ◌||◌, List, [], ◌∷◌, leb, ltb, eqb, Result, Ok, Err, ⊤}
+use Rattle.answer.specs.declared.Refusal.{Refusal}
 use Rattle.answer.specs.declared.Refusal.TheVariants.{
   FieldTooLarge,
   LevelUnavailable,
@@ -14,8 +15,6 @@ use Rattle.machine.specs.declared.Machine.{Machine}
 use Rattle.machine.specs.declared.Settings.{Settings}
 use Rattle.machine.specs.First.{first}
 use Rattle.state.specs.declared.View.{View}
-use Rattle.state.specs.declared.Verdict.{Verdict}
-use Rattle.state.specs.declared.Verdict.TheVariants.{Consistent, Refused}
 use Rattle.fields.specs.Largest.{largest, exceeds, largest_level}
 
 -- MODEL R15: some counter is 2^32 or more
@@ -85,18 +84,18 @@ feature_missing v =
     ((has.p5 || has.p9 || has.icntr) && not has.pmuv3) || (has.p9 && not has.p5)
 
 -- MODEL V3: the state test, a row for each refusal, lowest number first
-unfoldable pub refusals : View → List (Bool × Verdict)
+unfoldable pub refusals : View → List (Bool × Result ⊤ Refusal)
 refusals v =
-    (too_large v, Refused FieldTooLarge)
-    ∷ (level_unavailable v, Refused LevelUnavailable)
-    ∷ (el2_unimplemented v, Refused El2Unimplemented)
-    ∷ (hpmn_above_n v, Refused HpmnAboveN)
-    ∷ (hpmn_zero v, Refused HpmnZero)
-    ∷ (counter_too_wide v, Refused CounterTooWide)
-    ∷ (tge_at_el1 v, Refused TgeAtEl1)
-    ∷ (feature_missing v, Refused FeatureMissing)
+    (too_large v, Err FieldTooLarge)
+    ∷ (level_unavailable v, Err LevelUnavailable)
+    ∷ (el2_unimplemented v, Err El2Unimplemented)
+    ∷ (hpmn_above_n v, Err HpmnAboveN)
+    ∷ (hpmn_zero v, Err HpmnZero)
+    ∷ (counter_too_wide v, Err CounterTooWide)
+    ∷ (tge_at_el1 v, Err TgeAtEl1)
+    ∷ (feature_missing v, Err FeatureMissing)
     ∷ []
 
 -- MODEL V3 and V4: the first row that applies; a record is consistent where none does
-unfoldable pub verdict_of : View → Verdict
-verdict_of v = first (refusals v) Consistent
+unfoldable pub verdict_of : View → Result ⊤ Refusal
+verdict_of v = first (refusals v) (Ok tt)

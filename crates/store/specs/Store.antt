@@ -1,7 +1,7 @@
 -- Which field of the record has which number: each field after a value is stored to the field with number f. In the crate
 -- `fields`, Largest.antt has the numbers again, in ranges, with the largest value of each, and Set.antt the tests of the set
 -- command; here is none.
-use Rattle.std.specs.Prelude.{ℕ, ◌+◌, ◌-◌, Bool, cond, not, ◌&&◌, ◌||◌, List, set, leb, eqb}
+use Rattle.std.specs.Prelude.{ℕ, ◌+◌, ◌-◌, Bool, cond, ◌&&◌, List, set, leb, eqb}
 use Rattle.machine.specs.declared.Features.{Features}
 use Rattle.machine.specs.declared.Execution.{Execution}
 use Rattle.machine.specs.declared.Pmcr.{Pmcr}
@@ -25,7 +25,7 @@ within low high f = leb low f && leb f high
 
 -- MODEL F20: the one-bit field number k after v is stored to field f: v where f is k, else as it was
 abbrev pub flag : ℕ → ℕ → ℕ → Bool → Bool
-flag k f v old = (eqb f k && eqb v 1) || (not (eqb f k) && old)
+flag k f v old = cond (eqb f k) (eqb v 1) old
 
 -- MODEL F20: the same of a field that holds a number
 abbrev pub number : ℕ → ℕ → ℕ → ℕ → ℕ
@@ -171,8 +171,8 @@ store_settings f v s =
       external = store_external f v s.external;
     }
 
--- MODEL F14 and F15: a list of 31 numbers whose fields begin at first: element f - first takes v
-abbrev pub store_list : ℕ → ℕ → ℕ → List ℕ → List ℕ
+-- MODEL F14 and F15: a list of 31 values whose fields begin at first: element f - first takes v
+abbrev pub store_list : {A : Type 0} → ℕ → ℕ → A → List A → List A
 store_list first f v l = cond (within first (first + 30) f) (set l (f - first) v) l
 
 -- MODEL F16, F22 and F24: the instruction counter is field 7F, the overflow flags are field 37, PMSICR_EL1 is 8C and the word

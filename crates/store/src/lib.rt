@@ -1,5 +1,6 @@
 // The record with one field stored, by the field's number: each part is made anew, in which the field with that number takes
-// the value and every other one stays. Nothing is tested here: the set command is in the crate `fields`.
+// the value and every other one stays. Nothing is tested here: the set command is in the crate `fields`. The number and the
+// value stand as two arguments, as in the definitions: a pair of them would be taken apart in each line.
 #![tactic(auto)]
 
 ghost use Rattle.std.specs.Prelude.{◌≡◌, ◌%◌};
@@ -12,27 +13,27 @@ use machine::{
     Sampling, Scr, Settings, Values,
 };
 
+#[tactic(auto, unfolding(crate::specs::Store::store_features))]
 fn features(s: Features, f: u8, v: u64) -> Features
     ensures { result ≡ store_features f v s }
 {
     let on = v == 1;
-    let n = bits::pick(f == 0x0C, v, s.n);
     Features {
-        pmuv3: ((f == 0x00) & on) | ((f != 0x00) & s.pmuv3),
-        p5: ((f == 0x01) & on) | ((f != 0x01) & s.p5),
-        p9: ((f == 0x02) & on) | ((f != 0x02) & s.p9),
-        icntr: ((f == 0x03) & on) | ((f != 0x03) & s.icntr),
-        fgt: ((f == 0x04) & on) | ((f != 0x04) & s.fgt),
-        fgt2: ((f == 0x05) & on) | ((f != 0x05) & s.fgt2),
-        hpmn0: ((f == 0x06) & on) | ((f != 0x06) & s.hpmn0),
-        ext32: ((f == 0x07) & on) | ((f != 0x07) & s.ext32),
-        ext64: ((f == 0x08) & on) | ((f != 0x08) & s.ext64),
-        el2: ((f == 0x09) & on) | ((f != 0x09) & s.el2),
-        el3: ((f == 0x0A) & on) | ((f != 0x0A) & s.el3),
-        el3prio: ((f == 0x0B) & on) | ((f != 0x0B) & s.el3prio),
-        spe: ((f == 0x80) & on) | ((f != 0x80) & s.spe),
-        ernd: ((f == 0x81) & on) | ((f != 0x81) & s.ernd),
-        n: n,
+        pmuv3: bits::pick(f == 0x00, on, s.pmuv3),
+        p5: bits::pick(f == 0x01, on, s.p5),
+        p9: bits::pick(f == 0x02, on, s.p9),
+        icntr: bits::pick(f == 0x03, on, s.icntr),
+        fgt: bits::pick(f == 0x04, on, s.fgt),
+        fgt2: bits::pick(f == 0x05, on, s.fgt2),
+        hpmn0: bits::pick(f == 0x06, on, s.hpmn0),
+        ext32: bits::pick(f == 0x07, on, s.ext32),
+        ext64: bits::pick(f == 0x08, on, s.ext64),
+        el2: bits::pick(f == 0x09, on, s.el2),
+        el3: bits::pick(f == 0x0A, on, s.el3),
+        el3prio: bits::pick(f == 0x0B, on, s.el3prio),
+        spe: bits::pick(f == 0x80, on, s.spe),
+        ernd: bits::pick(f == 0x81, on, s.ernd),
+        n: bits::pick(f == 0x0C, v, s.n),
     }
 }
 
@@ -41,9 +42,9 @@ fn execution(s: Execution, f: u8, v: u64) -> Execution
 {
     let on = v == 1;
     Execution {
-        el2enabled: ((f == 0x10) & on) | ((f != 0x10) & s.el2enabled),
-        halted: ((f == 0x11) & on) | ((f != 0x11) & s.halted),
-        sdd: ((f == 0x12) & on) | ((f != 0x12) & s.sdd),
+        el2enabled: bits::pick(f == 0x10, on, s.el2enabled),
+        halted: bits::pick(f == 0x11, on, s.halted),
+        sdd: bits::pick(f == 0x12, on, s.sdd),
     }
 }
 
@@ -52,8 +53,8 @@ fn pmcr(s: Pmcr, f: u8, v: u64) -> Pmcr
 {
     let on = v == 1;
     Pmcr {
-        e: ((f == 0x3D) & on) | ((f != 0x3D) & s.e),
-        lp: ((f == 0x35) & on) | ((f != 0x35) & s.lp),
+        e: bits::pick(f == 0x3D, on, s.e),
+        lp: bits::pick(f == 0x35, on, s.lp),
     }
 }
 
@@ -62,11 +63,11 @@ fn pmuserenr(s: Pmuserenr, f: u8, v: u64) -> Pmuserenr
 {
     let on = v == 1;
     Pmuserenr {
-        en: ((f == 0x20) & on) | ((f != 0x20) & s.en),
-        sw: ((f == 0x21) & on) | ((f != 0x21) & s.sw),
-        er: ((f == 0x22) & on) | ((f != 0x22) & s.er),
-        uen: ((f == 0x23) & on) | ((f != 0x23) & s.uen),
-        ir: ((f == 0x31) & on) | ((f != 0x31) & s.ir),
+        en: bits::pick(f == 0x20, on, s.en),
+        sw: bits::pick(f == 0x21, on, s.sw),
+        er: bits::pick(f == 0x22, on, s.er),
+        uen: bits::pick(f == 0x23, on, s.uen),
+        ir: bits::pick(f == 0x31, on, s.ir),
     }
 }
 
@@ -75,36 +76,36 @@ fn hcr(s: Hcr, f: u8, v: u64) -> Hcr
 {
     let on = v == 1;
     Hcr {
-        e2h: ((f == 0x24) & on) | ((f != 0x24) & s.e2h),
-        tge: ((f == 0x25) & on) | ((f != 0x25) & s.tge),
-        nv: ((f == 0x84) & on) | ((f != 0x84) & s.nv),
-        nv2: ((f == 0x85) & on) | ((f != 0x85) & s.nv2),
+        e2h: bits::pick(f == 0x24, on, s.e2h),
+        tge: bits::pick(f == 0x25, on, s.tge),
+        nv: bits::pick(f == 0x84, on, s.nv),
+        nv2: bits::pick(f == 0x85, on, s.nv2),
     }
 }
 
+#[tactic(auto, unfolding(crate::specs::Store::store_mdcr2))]
 fn mdcr2(s: Mdcr2, f: u8, v: u64) -> Mdcr2
     ensures { result ≡ store_mdcr2 f v s }
 {
     let on = v == 1;
-    let hpmn = bits::pick(f == 0x27, v, s.hpmn);
     Mdcr2 {
-        tpm: ((f == 0x26) & on) | ((f != 0x26) & s.tpm),
-        hpme: ((f == 0x3E) & on) | ((f != 0x3E) & s.hpme),
-        hlp: ((f == 0x36) & on) | ((f != 0x36) & s.hlp),
-        tpms: ((f == 0x86) & on) | ((f != 0x86) & s.tpms),
-        hpmn: hpmn,
+        tpm: bits::pick(f == 0x26, on, s.tpm),
+        hpme: bits::pick(f == 0x3E, on, s.hpme),
+        hlp: bits::pick(f == 0x36, on, s.hlp),
+        tpms: bits::pick(f == 0x86, on, s.tpms),
+        hpmn: bits::pick(f == 0x27, v, s.hpmn),
     }
 }
 
+#[tactic(auto, unfolding(crate::specs::Store::store_mdcr3))]
 fn mdcr3(s: Mdcr3, f: u8, v: u64) -> Mdcr3
     ensures { result ≡ store_mdcr3 f v s }
 {
     let on = v == 1;
-    let nspb = bits::pick(f == 0x88, v, s.nspb);
     Mdcr3 {
-        tpm: ((f == 0x28) & on) | ((f != 0x28) & s.tpm),
-        enpm2: ((f == 0x29) & on) | ((f != 0x29) & s.enpm2),
-        nspb: nspb,
+        tpm: bits::pick(f == 0x28, on, s.tpm),
+        enpm2: bits::pick(f == 0x29, on, s.enpm2),
+        nspb: bits::pick(f == 0x88, v, s.nspb),
     }
 }
 
@@ -113,9 +114,9 @@ fn scr(s: Scr, f: u8, v: u64) -> Scr
 {
     let on = v == 1;
     Scr {
-        fgten: ((f == 0x2A) & on) | ((f != 0x2A) & s.fgten),
-        fgten2: ((f == 0x2B) & on) | ((f != 0x2B) & s.fgten2),
-        ns: ((f == 0x87) & on) | ((f != 0x87) & s.ns),
+        fgten: bits::pick(f == 0x2A, on, s.fgten),
+        fgten2: bits::pick(f == 0x2B, on, s.fgten2),
+        ns: bits::pick(f == 0x87, on, s.ns),
     }
 }
 
@@ -124,9 +125,9 @@ fn hdfgrtr(s: Hdfgrtr, f: u8, v: u64) -> Hdfgrtr
 {
     let on = v == 1;
     Hdfgrtr {
-        pmevcntrn: ((f == 0x2C) & on) | ((f != 0x2C) & s.pmevcntrn),
-        pmsicr: ((f == 0x89) & on) | ((f != 0x89) & s.pmsicr),
-        npmicntr: ((f == 0x2F) & on) | ((f != 0x2F) & s.npmicntr),
+        pmevcntrn: bits::pick(f == 0x2C, on, s.pmevcntrn),
+        pmsicr: bits::pick(f == 0x89, on, s.pmsicr),
+        npmicntr: bits::pick(f == 0x2F, on, s.npmicntr),
     }
 }
 
@@ -135,33 +136,33 @@ fn hdfgwtr(s: Hdfgwtr, f: u8, v: u64) -> Hdfgwtr
 {
     let on = v == 1;
     Hdfgwtr {
-        pmevcntrn: ((f == 0x2D) & on) | ((f != 0x2D) & s.pmevcntrn),
-        pmswinc: ((f == 0x2E) & on) | ((f != 0x2E) & s.pmswinc),
-        pmsicr: ((f == 0x8A) & on) | ((f != 0x8A) & s.pmsicr),
-        npmicntr: ((f == 0x30) & on) | ((f != 0x30) & s.npmicntr),
+        pmevcntrn: bits::pick(f == 0x2D, on, s.pmevcntrn),
+        pmswinc: bits::pick(f == 0x2E, on, s.pmswinc),
+        pmsicr: bits::pick(f == 0x8A, on, s.pmsicr),
+        npmicntr: bits::pick(f == 0x30, on, s.npmicntr),
     }
 }
 
+#[tactic(auto, unfolding(crate::specs::Store::store_pmuacr))]
 fn pmuacr(s: Pmuacr, f: u8, v: u64) -> Pmuacr
     ensures { result ≡ store_pmuacr f v s }
 {
     let on = v == 1;
-    let p = bits::pick(f == 0x32, v, s.p);
     Pmuacr {
-        p: p,
-        f0: ((f == 0x33) & on) | ((f != 0x33) & s.f0),
+        p: bits::pick(f == 0x32, v, s.p),
+        f0: bits::pick(f == 0x33, on, s.f0),
     }
 }
 
+#[tactic(auto, unfolding(crate::specs::Store::store_sampling))]
 fn sampling(s: Sampling, f: u8, v: u64) -> Sampling
     ensures { result ≡ store_sampling f v s }
 {
     let on = v == 1;
-    let reload = bits::pick(f == 0x8B, v, s.reload);
     Sampling {
-        rnd: ((f == 0x82) & on) | ((f != 0x82) & s.rnd),
-        profiling: ((f == 0x83) & on) | ((f != 0x83) & s.profiling),
-        reload: reload,
+        rnd: bits::pick(f == 0x82, on, s.rnd),
+        profiling: bits::pick(f == 0x83, on, s.profiling),
+        reload: bits::pick(f == 0x8B, v, s.reload),
     }
 }
 
@@ -170,76 +171,60 @@ fn external(s: External, f: u8, v: u64) -> External
 {
     let on = v == 1;
     External {
-        powered: ((f == 0x38) & on) | ((f != 0x38) & s.powered),
-        doublelock: ((f == 0x39) & on) | ((f != 0x39) & s.doublelock),
-        oslock: ((f == 0x3A) & on) | ((f != 0x3A) & s.oslock),
-        allowed: ((f == 0x3B) & on) | ((f != 0x3B) & s.allowed),
-        softwarelock: ((f == 0x3C) & on) | ((f != 0x3C) & s.softwarelock),
+        powered: bits::pick(f == 0x38, on, s.powered),
+        doublelock: bits::pick(f == 0x39, on, s.doublelock),
+        oslock: bits::pick(f == 0x3A, on, s.oslock),
+        allowed: bits::pick(f == 0x3B, on, s.allowed),
+        softwarelock: bits::pick(f == 0x3C, on, s.softwarelock),
     }
 }
 
+#[tactic(auto, unfolding(crate::specs::Store::store_settings))]
 pub fn settings(s: Settings, f: u8, v: u64) -> Settings
     ensures { result ≡ store_settings f v s }
 {
-    let features0 = s.features;
-    let execution0 = s.execution;
-    let pmcr0 = s.pmcr;
-    let pmuserenr0 = s.pmuserenr;
-    let hcr0 = s.hcr;
-    let mdcr20 = s.mdcr2;
-    let mdcr30 = s.mdcr3;
-    let scr0 = s.scr;
-    let hdfgrtr0 = s.hdfgrtr;
-    let hdfgwtr0 = s.hdfgwtr;
-    let pmuacr0 = s.pmuacr;
-    let sampling0 = s.sampling;
-    let external0 = s.external;
     Settings {
-        features: features(features0, f, v),
-        execution: execution(execution0, f, v),
-        pmcr: pmcr(pmcr0, f, v),
-        pmuserenr: pmuserenr(pmuserenr0, f, v),
-        hcr: hcr(hcr0, f, v),
-        mdcr2: mdcr2(mdcr20, f, v),
-        mdcr3: mdcr3(mdcr30, f, v),
-        scr: scr(scr0, f, v),
-        hdfgrtr: hdfgrtr(hdfgrtr0, f, v),
-        hdfgwtr: hdfgwtr(hdfgwtr0, f, v),
-        pmuacr: pmuacr(pmuacr0, f, v),
-        sampling: sampling(sampling0, f, v),
+        features: features(s.features, f, v),
+        execution: execution(s.execution, f, v),
+        pmcr: pmcr(s.pmcr, f, v),
+        pmuserenr: pmuserenr(s.pmuserenr, f, v),
+        hcr: hcr(s.hcr, f, v),
+        mdcr2: mdcr2(s.mdcr2, f, v),
+        mdcr3: mdcr3(s.mdcr3, f, v),
+        scr: scr(s.scr, f, v),
+        hdfgrtr: hdfgrtr(s.hdfgrtr, f, v),
+        hdfgwtr: hdfgwtr(s.hdfgwtr, f, v),
+        pmuacr: pmuacr(s.pmuacr, f, v),
+        sampling: sampling(s.sampling, f, v),
         cnten: bits::pick(f == 0x34, v, s.cnten),
-        external: external(external0, f, v),
+        external: external(s.external, f, v),
+    }
+}
+
+// 31 fields of one type, the first of which has the number `first`: where f is among their numbers, that field takes v.
+fn list<T: Copy>(first: u8, f: u8, v: T, l: [T; 31]) -> [T; 31]
+    ensures { result ≡ store_list first f v l }
+{
+    match f.checked_sub(first) {
+        Some(at) if at < 31 => {
+            let mut next = l;
+            next[at as usize] = v;
+            next
+        }
+        _ => l,
     }
 }
 
 pub fn events(e: [u16; 31], f: u8, v: u64) -> [u16; 31]
     ensures { result ≡ store_list 0x40 f (v % 65536) e }
 {
-    if f < 0x40 {
-        return e;
-    }
-    if 0x5E < f {
-        return e;
-    }
-    let at = (f - 0x40) as usize;
-    let mut next = e;
-    next[at] = (v % 65536) as u16;
-    next
+    list(0x40, f, (v % 65536) as u16, e)
 }
 
 pub fn counters(c: [u64; 31], f: u8, v: u64) -> [u64; 31]
     ensures { result ≡ store_list 0x60 f v c }
 {
-    if f < 0x60 {
-        return c;
-    }
-    if 0x7E < f {
-        return c;
-    }
-    let at = (f - 0x60) as usize;
-    let mut next = c;
-    next[at] = v;
-    next
+    list(0x60, f, v, c)
 }
 
 pub fn values(s: Values, f: u8, v: u64) -> Values

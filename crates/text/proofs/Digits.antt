@@ -1,7 +1,7 @@
 -- Laws of decimal and hexadecimal digits: the cases of a number below 10,000, and one hexadecimal digit a turn.
-use Prim.Native.Nat.{ℕ, zero, suc, ◌+◌, ◌-◌, ◌*◌, ◌/◌, ◌%◌, ◌^◌, ◌<◌, ◌≤◌}
+use Prim.Native.Nat.{ℕ, zero, suc, ◌+◌, ◌*◌, ◌/◌, ◌%◌, ◌^◌, ◌<◌, ◌≤◌}
 use mathlib.Core.List.{List, [], ◌∷◌, ◌++◌}
-use mathlib.Core.Path.{◌≡◌, refl, ap}
+use mathlib.Core.Path.{◌≡◌, refl, sym, ◌∙◌, ap}
 use native.Mathlib.Numerals.{add-one}
 use native.Mathlib.Omega.{arith}
 use borrow.Author.Tests.{lt-ltb, le-ltb, ltb-false}
@@ -19,21 +19,26 @@ pub decimal-2 : (n : ℕ) → 10 ≤ n → n < 100 → decimal n ≡ (48 + n / 1
 unfolding decimal
 decimal-2 n l h = rw (le-ltb n 10 l, lt-ltb (n / 10) 10 (omega arith))
 
-pub decimal-3 : (n : ℕ) → 100 ≤ n → n < 1000 → decimal n ≡ (48 + n / 10 / 10) ∷ (48 + n / 10 % 10) ∷ (48 + n % 10) ∷ []
+pub decimal-3 : (n : ℕ) → 100 ≤ n → n < 1000 → decimal n ≡ (48 + n / 100) ∷ (48 + n / 10 % 10) ∷ (48 + n % 10) ∷ []
 unfolding decimal
 decimal-3 n l h =
-    rw (le-ltb n 10 (omega arith), le-ltb (n / 10) 10 (omega arith), lt-ltb (n / 10 / 10) 10 (omega arith))
+    let e : n / 10 / 10 ≡ n / 100 = omega arith in
+    rw (le-ltb n 10 (omega arith), le-ltb (n / 10) 10 (omega arith), lt-ltb (n / 10 / 10) 10 (omega arith), e)
 
 pub decimal-4 :
     (n : ℕ) → 1000 ≤ n → n < 10000
-    → decimal n ≡ (48 + n / 10 / 10 / 10) ∷ (48 + n / 10 / 10 % 10) ∷ (48 + n / 10 % 10) ∷ (48 + n % 10) ∷ []
+    → decimal n ≡ (48 + n / 1000) ∷ (48 + n / 100 % 10) ∷ (48 + n / 10 % 10) ∷ (48 + n % 10) ∷ []
 unfolding decimal
 decimal-4 n l h =
+    let e : n / 10 / 10 / 10 ≡ n / 1000 = omega arith in
+    let f : n / 10 / 10 ≡ n / 100 = omega arith in
     rw (
       le-ltb n 10 (omega arith),
       le-ltb (n / 10) 10 (omega arith),
       le-ltb (n / 10 / 10) 10 (omega arith),
       lt-ltb (n / 10 / 10 / 10) 10 (omega arith),
+      e,
+      f,
     )
 
 -- a number below 10^k has at most k digits
@@ -64,18 +69,16 @@ length-hex zero x = refl
 length-hex (suc k) x = ap suc (length-hex k x)
 
 -- the highest of k digits
-hex-first : (k x : ℕ) → 0 < k → hex k x ≡ hex_digit (x / 2 ^ (4 * (k - 1)) % 16) ∷ hex (k - 1) x
+hex-first :
+    (k x : ℕ) {d : ℕ} → d ≡ hex_digit (x / 2 ^ (4 * k) % 16) → hex (k + 1) x ≡ (d ∷ []) ++ hex k x
 unfolding hex
-hex-first zero x h = let z : ⊥ = omega arith in absurd z
-hex-first (suc k) x h = let e : suc k - 1 ≡ k = omega arith in rw e
+hex-first k x e = rw (add-one k, e)
 
--- digits stored one a turn
-module _ (l : List ℕ) (at k x : ℕ) where
-  pub hex-turn :
-      0 < k → {d : ℕ} → d ≡ hex_digit (x / 2 ^ (4 * (k - 1)) % 16)
-      → sets l at (hex k x) ≡ sets (set l at d) (at + 1) (hex (k - 1) x)
-  hex-turn h e = rw (hex-first k x h, add-one at, e)
-
-  pub hex-done : k ≡ 0 → sets l at (hex k x) ≡ l
-  unfolding hex
-  hex-done e = rw e
+-- a digit stored, the highest of those that are left
+pub hex-turn :
+    (l : List ℕ) (i j x : ℕ) {n m d : ℕ} → n ≡ j + 1 → d ≡ hex_digit (x / 2 ^ (4 * m) % 16) → m ≡ j
+    → sets l i (hex n x) ≡ sets (set l i d) (i + 1) (hex j x)
+hex-turn l i j x {d = d} e f g =
+    ap (λ k. sets l i (hex k x)) e
+    ∙ ap (sets l i) (hex-first j x (f ∙ ap (λ k. hex_digit (x / 2 ^ (4 * k) % 16)) g))
+    ∙ ap (λ k. sets (set l i d) k (hex j x)) (sym (add-one i))

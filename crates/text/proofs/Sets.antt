@@ -1,22 +1,13 @@
--- Laws of a run of stores: one store a turn, and two runs one behind the other.
-use Prim.Native.Nat.{ℕ, suc, ◌+◌, ◌<◌, ◌≤◌}
-use mathlib.Core.List.{List, [], ◌∷◌, ◌++◌}
-use mathlib.Core.Path.{◌≡◌, refl, sym, ◌∙◌, ap}
+-- Laws of a run of stores: two runs one behind the other, and a run stored at once.
+use Prim.Native.Nat.{ℕ, suc, ◌+◌, ◌-◌, ◌≤◌}
+use mathlib.Core.List.{List, [], ◌∷◌, ◌++◌, append_assoc, append-nil}
+use mathlib.Core.Path.{◌≡◌, sym, ◌∙◌, ap}
 use native.Mathlib.Nat.{add-zero}
-use native.Mathlib.Numerals.{add-one, add-two, add-three}
 use native.Mathlib.Omega.{arith}
-use lib.ListN.{length, get_or, set, drop, length-append, drop_of_length-le}
-use lib.Seq.{sets, drop-cons}
+use borrow.Rule.Slice.PartMut.{put_mid}
+use lib.ListN.{length, set, take, drop, length-append, drop_of_length-le}
+use lib.Seq.{sets, sets-eq, drop-drop}
 use Rattle.text.specs.Written.{Written}
-
--- a run stored one element a turn
-module _ (l s : List ℕ) (at i : ℕ) where
-  pub sets-turn :
-      i < length s → sets l (at + i) (drop i s) ≡ sets (set l (at + i) (get_or s i 0)) (at + (i + 1)) (drop (i + 1) s)
-  sets-turn h = let e : at + (i + 1) ≡ suc (at + i) = omega arith in rw (e, add-one i, drop-cons s i 0)
-
-  pub sets-done : length s ≤ i → sets l (at + i) (drop i s) ≡ l
-  sets-done h = rw drop_of_length-le
 
 -- one run behind another
 sets-append : (l a b : List ℕ) (i : ℕ) → sets (sets l i a) (i + length a) b ≡ sets l i (a ++ b)
@@ -47,19 +38,22 @@ sets-rest {before} {after} {a} {at} {k} p b =
     sym (sets-append before a b at)
     ∙ (λ i. sets (sym p.stored i) (sym p.behind i) b)
 
--- one to four bytes, stored one by one
-pub one_byte : {l : List ℕ} {at a : ℕ} → Written l at (a ∷ []) (set l at a) (at + 1)
-one_byte = record { stored = refl; behind = refl }
+-- a run stored at once
+pub sets-copied :
+    (l : List ℕ) (at : ℕ) {s copy : List ℕ} → copy ≡ s → at + length s ≤ length l
+    → put_mid at (at + length s - at) l copy ≡ sets l at s
+sets-copied l at {s} e fits =
+    let size : at + length s - at ≡ length s = omega arith in
+    ap (λ (t : List ℕ). take at l ++ t)
+    ((λ i. e i ++ drop (size i) (drop at l)) ∙ ap (λ (t : List ℕ). s ++ t) (drop-drop (length s) at l))
+    ∙ sym (sets-eq s l at fits ∙ append_assoc (take at l) s (drop (at + length s) l))
 
-pub two_bytes : {l : List ℕ} {at a b : ℕ} → Written l at (a ∷ b ∷ []) (set (set l at a) (at + 1) b) (at + 2)
-two_bytes {at = at} = record { stored = rw (add-one at); behind = refl }
-
-pub three-bytes :
-    {l : List ℕ} {at a b c : ℕ}
-    → Written l at (a ∷ b ∷ c ∷ []) (set (set (set l at a) (at + 1) b) (at + 2) c) (at + 3)
-three-bytes {at = at} = record { stored = rw (add-one at, add-two at); behind = refl }
-
-pub four_bytes :
-    {l : List ℕ} {at a b c d : ℕ}
-    → Written l at (a ∷ b ∷ c ∷ d ∷ []) (set (set (set (set l at a) (at + 1) b) (at + 2) c) (at + 3) d) (at + 4)
-four_bytes {at = at} = record { stored = rw (add-one at, add-two at, add-three at); behind = refl }
+-- a part as long as the run is the run, once nothing is left to store
+pub sets-whole :
+    (l s part : List ℕ) (i : ℕ) → length s ≤ i → length l ≡ length s → sets l 0 s ≡ sets part i (drop i s) → part ≡ s
+sets-whole l s part i done size e =
+    ap (sets part i) (sym (drop_of_length-le s done))
+    ∙ sym e
+    ∙ sets-eq s l 0 (omega arith)
+    ∙ ap (λ (t : List ℕ). s ++ t) (drop_of_length-le l (omega arith))
+    ∙ append-nil s

@@ -2,6 +2,5 @@
 pub mod Worked
 pub mod Running
 pub mod Room
-pub mod Turn
 pub mod Whole
 pub mod Lines

@@ -1,8 +1,8 @@
 -- The answers of a session's commands, and the whole output.
-use Rattle.std.specs.Prelude.{ℕ, suc, ◌+◌, ◌*◌, cond, List, [], ◌∷◌, ◌++◌, ltb, length, drop}
+use Rattle.std.specs.Prelude.{ℕ, suc, ◌+◌, ◌*◌, cond, List, [], ◌∷◌, ◌++◌, ltb, length, drop, Result, Ok, Err}
 use Rattle.answer.specs.declared.Answer.{Answer}
 use Rattle.answer.specs.declared.Refusal.TheVariants.{SessionTooLong}
-use Rattle.transcript.specs.declared.Output.{Output}
+use Rattle.transcript.specs.declared.TooShort.{TooShort}
 use Rattle.form.specs.declared.Form.{Form}
 use Rattle.command.specs.Command.{commands_in}
 use Rattle.form.specs.Form.{form_of, body_of, longest}
@@ -33,10 +33,14 @@ output_of s = cond (ltb longest (length (body_of s))) (line_of 0 (Answer.Refused
 abbrev pub room : ℕ
 room = 16 * longest + 64
 
+-- MODEL X2: the one error
+abbrev pub too_short : TooShort
+too_short = record {}
+
 -- MODEL X2: what the library function answers, given the session and the buffer: too short a buffer is named, else the
 -- output's length
-unfoldable pub result_of : List ℕ → List ℕ → Output
-result_of s out = cond (ltb (length out) room) Output.Short (Output.Bytes (length (output_of s)))
+unfoldable pub result_of : List ℕ → List ℕ → Result ℕ TooShort
+result_of s out = cond (ltb (length out) room) (Err too_short) (Ok (length (output_of s)))
 
 -- MODEL X2: what the buffer then holds: nothing is written to one that is too short, else the output stands at its front
 unfoldable pub buffer_of : List ℕ → List ℕ → List ℕ

@@ -2,99 +2,103 @@
 #![tactic(auto)]
 
 ghost use Rattle.std.specs.Prelude.{◌≡◌, ◌≤◌, length};
-ghost use Rattle.text.specs.Written.{Written};
+ghost use Rattle.text.specs.Wrote.{HasRoom, Wrote};
+ghost use Rattle.machine.specs.Machine.{with_counters};
+ghost use Rattle.machine.specs.Outcome.{says};
+ghost use Rattle.execute.specs.Execute.{obey};
+ghost use Rattle.undo_list.specs.Words.{history_by, response_by};
 ghost use Rattle.form.specs.Form.{longest};
 ghost use Rattle.transcript.specs.Session.{lines_from, answers_in, room, result_of, buffer_of};
 
 use answer::{Answer, Refusal};
 use command::Command;
+use command::reading::Commands;
 use form::Form;
+use machine::Machine;
+use text::Writer;
 
 // The bytes that any session's output fits into: `room` of specs/Session.antt.
 pub const ROOM: usize = 65600;
 
-// Writes the lines of the commands in bytes of a form, not too many, from the fresh record on. The record is a local,
-// and its counters are one of their own: an access has them lent, and every other command takes and returns the whole
-// record by value. The table of registers is made once, and lent for each word; the words of the undo list are lent to each
-// command.
-fn write_lines(f: Form, input: &[u8], out: &mut [u8]) -> usize
-    requires { (length input.now ≤ longest) × (room ≤ length out.old) }
-    ensures { Written out.old 0 (lines_from 1 (answers_in f input.now)) out.new result
-        × (result ≤ length out.old) }
+// Runs what was read, a command or the refusal that was met in reading it, on the record and on the undo list, whose words are
+// lent. The record's counters are apart from it, and its event numbers are copied for an access, so that the record is lent to
+// nobody: a session's commands cost fewer instructions so (docs/PERFORMANCE.md).
+#[inline(always)]
+fn obey(
+    read: Result<Command, Refusal>,
+    m: &mut Machine,
+    counters: &mut [u64; 31],
+    list: &mut [u64; 194],
+) -> Answer
+    ensures { response_by (says result (with_counters counters.new m.new)) list.new
+        ≡ obey read (history_by (with_counters counters.old m.old) list.old) }
 {
-    let registers = word::table::registers();
+    match read {
+        Ok(Command::Access { word, operand }) => {
+            let events = m.events;
+            let said = execute::access_decoded(
+                counters,
+                &events,
+                m.settings,
+                m.level,
+                m.values,
+                word::decode(word),
+                operand,
+                list,
+            );
+            m.values = said.values;
+            said.answer
+        }
+        _ => {
+            let mut r = *m;
+            let own = *counters;
+            r.counters = own;
+            let o = execute::other(read, r, list);
+            let next = o.machine;
+            let left = next.counters;
+            *m = next;
+            *counters = left;
+            o.answer
+        }
+    }
+}
+
+// Writes the lines of the commands in bytes of a form, not too many, from the fresh record on, with nothing listed.
+fn write_lines(w: &mut Writer<'_>, f: Form, input: &[u8])
+    requires { (length input.now ≤ longest) × HasRoom w.old room }
+    ensures { Wrote w.old (lines_from 1 (answers_in f input.now)) w.new × (w.new.at ≤ length w.old.out.now) }
+{
     let mut m = machine::fresh::fresh();
     let mut counters = m.counters;
     let mut list = [0u64; 194];
-    let mut at: usize = 0;
-    let mut end: usize = 0;
     let mut position: u64 = 1;
-    loop {
-        let c = command::command_of(f, &input[at..]);
-        let size = command::reading::size_at(&input[at..]);
-        let mut a = Answer::End;
-        match c {
-            Command::Access { word, operand } => {
-                let events = m.events;
-                let settings = m.settings;
-                let values = m.values;
-                let i = word::decode_by(&registers, word);
-                let said = execute::access_decoded(
-                    &mut counters,
-                    &events,
-                    settings,
-                    m.level,
-                    values,
-                    i,
-                    operand,
-                    &mut list,
-                );
-                let after = said.values;
-                m.values = after;
-                let answer = said.answer;
-                a = answer;
-            }
-            _ => {
-                let mut r = m;
-                r.counters = counters;
-                let o = execute::other(c, r, &mut list);
-                let next = o.machine;
-                m = next;
-                let left = next.counters;
-                counters = left;
-                let answer = o.answer;
-                a = answer;
-            }
-        }
-        end = line::line(out, end, position, a);
-        if command::reading::is_last(c) {
-            return end;
-        }
-        at += size;
+    for read in Commands::new(f, input) {
+        let a = obey(read, &mut m, &mut counters, &mut list);
+        line::line(w, position, a);
         position += 1;
     }
 }
 
-// What became of a session: the output buffer is too short for what a session can print and was left alone, or so many bytes of
-// it hold the output.
+// The output buffer is too short for what a session can print.
 #[derive(Clone, Copy)]
-pub enum Output {
-    Short,
-    Bytes(usize),
-}
+pub struct TooShort;
 
-// Runs a session's bytes from the fresh record, and writes its lines to the front of the buffer.
-pub fn session(input: &[u8], out: &mut [u8]) -> Output
+// Runs a session's bytes from the fresh record, and writes its lines to the front of the buffer. Says how many bytes they have.
+// A buffer that is too short is left alone.
+pub fn session(input: &[u8], out: &mut [u8]) -> Result<usize, TooShort>
     ensures { (result ≡ result_of input.now out.old)
         × (out.new ≡ buffer_of input.now out.old) }
 {
     if out.len() < ROOM {
-        return Output::Short;
+        return Err(TooShort);
     }
     let f = form::form_of(input);
     let start = form::body_start(input);
+    let mut w = Writer::new(out);
     if 4096 < input.len() - start {
-        return Output::Bytes(line::line(out, 0, 0, Answer::Refused(Refusal::SessionTooLong)));
+        line::line(&mut w, 0, Answer::Refused(Refusal::SessionTooLong));
+    } else {
+        write_lines(&mut w, f, &input[start..]);
     }
-    Output::Bytes(write_lines(f, &input[start..], out))
+    Ok(w.place())
 }

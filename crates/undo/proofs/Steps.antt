@@ -21,9 +21,10 @@ use Rattle.rules.specs.declared.Stop.{Stop}
 use Rattle.rules.specs.Overflow.{width}
 use Rattle.rules.specs.Permitted.{place_access, redirected}
 use Rattle.rules.specs.Traps.{stop_of}
-use Rattle.rules.specs.Step.{undefined_at_once, permitted, unless_stopped, unless_refused, decide_register, decide_decoded, step_decoded}
-use Rattle.state.specs.declared.Verdict.{Verdict}
-use Rattle.state.specs.declared.Verdict.TheVariants.{Consistent, Refused}
+use Rattle.rules.specs.Step.{undefined_at_once, permitted, unless_stopped, unless_refused, decide_register, decide_decoded}
+use Rattle.rules.specs.Step.{step_decoded}
+use Rattle.std.specs.Prelude.{Result, ⊤, Ok, Err}
+use Rattle.answer.specs.declared.Refusal.{Refusal}
 use Rattle.state.specs.State.{any_wide, view_of, verdict_of}
 use Rattle.state.proofs.Consistent.{n-fits, not_wide}
 use Rattle.undo.specs.Undo.{change_decoded, undo_of, undone, Typed}
@@ -51,8 +52,9 @@ module _ (r : Machine) (typed : Typed r.counters) where
   unfolding place_access
   place-takeable a b p i x t = search (chosen (λ (d : Decision). Takeable d r))
 
-  module _ (consistent : verdict_of (view_of r) ≡ Consistent) (i : Instruction) (x : ℕ) where
-    permitted-takeable : (g : Register) → undefined_at_once (view_of r) g i.read ≡ false → Takeable (permitted (view_of r) g i x) r
+  module _ (consistent : verdict_of (view_of r) ≡ Ok tt) (i : Instruction) (x : ℕ) where
+    permitted-takeable : (g : Register) → undefined_at_once (view_of r) g i.read ≡ false
+        → Takeable (permitted (view_of r) g i x) r
     unfolding view_of
     permitted-takeable (Pmevcntr m) e =
         let n = r.settings.features.n in
@@ -74,9 +76,10 @@ module _ (r : Machine) (typed : Typed r.counters) where
   decided-takeable : (i : Instruction) (x : ℕ) → Takeable (decide_decoded (view_of r) i x) r
   decided-takeable i x = go (verdict_of (view_of r)) refl
     where
-      go : (w : Verdict) → verdict_of (view_of r) ≡ w → Takeable (unless_refused w (decide_register (view_of r) i.register i x)) r
-      go Consistent e = register-takeable e i x i.register
-      go (Refused n) e = tt
+      go : (w : Result ⊤ Refusal) → verdict_of (view_of r) ≡ w
+          → Takeable (unless_refused w (decide_register (view_of r) i.register i x)) r
+      go (Ok _) e = register-takeable e i x i.register
+      go (Err n) e = tt
 
   -- the access with an instruction, a word taken apart
   pub step-taken-back :

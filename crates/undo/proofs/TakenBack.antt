@@ -68,7 +68,8 @@ module _ (r : Machine) where
         le-leb 0x60 (0x60 + m) (omega arith),
         le-leb (0x60 + m) (0x60 + 30) (omega arith),
       )
-      (ap (λ l. with_counters l r) (ap (λ k. set (set c m x) k (get_or c m 0)) at ∙ set-set c m x (get_or c m 0) ∙ set-get_or c m 0))
+      (ap (λ l. with_counters l r) (ap (λ k. set (set c m x) k (get_or c m 0)) at ∙ set-set c m x (get_or c m 0)
+      ∙ set-get_or c m 0))
   put_back Instructions x h = refl
   put_back Interval x h = refl
   put_back Nvmem x h = refl

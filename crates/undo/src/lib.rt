@@ -10,7 +10,8 @@ use machine::{Machine, Settings, Values};
 use rules::Place;
 
 // A field of the record by its number, and what it held; `NOTHING` where no field was changed, and `INCREMENTS` where 1 was added
-// to event counters, of which the mask is kept.
+// to event counters, of which the mask is kept. The number stays a number: an undo list may be any words (MODEL H9), `entry_at`
+// says which `Change` each of them is, and of a number that no command keeps it has both parts too.
 #[derive(Clone, Copy)]
 pub struct Change {
     pub field: u8,
@@ -33,7 +34,7 @@ pub const INCREMENTS: u8 = 0xFE;
 
 // No field was changed.
 pub const UNCHANGED: Change = Change {
-    field: 0xFF,
+    field: NOTHING,
     old: 0,
 };
 
@@ -42,12 +43,8 @@ fn field_of(place: Place) -> u8
     ensures { result ≡ field_of place }
 {
     match place {
-        Place::Counter(m) => {
-            if m < 31 {
-                return 0x60 + m as u8;
-            }
-            NOTHING
-        }
+        Place::Counter(m) if m < 31 => 0x60 + m as u8,
+        Place::Counter(_) => NOTHING,
         Place::Instructions => 0x7F,
         Place::Interval => 0x8C,
         Place::Nvmem => 0x8D,
@@ -97,21 +94,19 @@ pub fn typed(counters: &[u64])
 fn settings_before(c: Change, s: Settings) -> Settings
     ensures { result ≡ settings_before c s }
 {
-    let mut next = s;
     if c.field == 0x34 {
-        next.cnten = c.old;
+        return Settings { cnten: c.old, ..s };
     }
-    next
+    s
 }
 
 // The event counters with what was kept of them put back.
-fn counters_before(c: Change, p5: bool, events: &[u16; 31], counters: [u64; 31]) -> [u64; 31]
+fn counters_before(c: Change, p5: bool, events: &[u16; 31], mut counters: [u64; 31]) -> [u64; 31]
     ensures { result ≡ counters_before c p5 events.now counters }
 {
     if c.field == INCREMENTS {
-        let mut next = counters;
-        counters::decrement(&mut next, events, p5, c.old);
-        return next;
+        counters::decrement(&mut counters, events, p5, c.old);
+        return counters;
     }
     store::counters(counters, c.field, c.old)
 }
@@ -120,33 +115,27 @@ fn counters_before(c: Change, p5: bool, events: &[u16; 31], counters: [u64; 31])
 pub fn kept(field: u8, old: u64, level: u8, ovs: u64) -> Undo
     ensures { result ≡ record { change = held field old; level = level; ovs = ovs } }
 {
-    let change = Change {
-        field: field,
-        old: old,
-    };
     Undo {
-        change: change,
-        level: level,
-        ovs: ovs,
+        change: Change { field, old },
+        level,
+        ovs,
     }
 }
 
 // The record with what was kept of a command put back.
+#[tactic(auto, unfolding(crate::specs::Undo::undone))]
 pub fn undone(u: Undo, r: Machine) -> Machine
     ensures { result ≡ undone u r }
 {
-    let change = u.change;
-    let settings = r.settings;
-    let events = r.events;
-    let counters = r.counters;
-    let values = r.values;
-    let mut before = store::values(values, change.field, change.old);
-    before.ovs = u.ovs;
+    let c = u.change;
     Machine {
         level: u.level,
-        settings: settings_before(change, settings),
-        events: events,
-        counters: counters_before(change, settings.features.p5, &events, counters),
-        values: before,
+        settings: settings_before(c, r.settings),
+        events: r.events,
+        counters: counters_before(c, r.settings.features.p5, &r.events, r.counters),
+        values: Values {
+            ovs: u.ovs,
+            ..store::values(r.values, c.field, c.old)
+        },
     }
 }

@@ -11,7 +11,8 @@ use Rattle.bits.proofs.Choice.{either}
 use Rattle.execute.specs.Execute.{tick_command}
 use Rattle.fields.specs.Largest.{largest, exceeds, largest_level}
 use Rattle.fields.specs.Set.{set, set_level}
-use Rattle.store.specs.Store.{number, store, store_settings, store_features, store_mdcr2, store_mdcr3, store_pmuacr, store_sampling}
+use Rattle.store.specs.Store.{number, store, store_settings, store_features, store_mdcr2, store_mdcr3, store_pmuacr}
+use Rattle.store.specs.Store.{store_sampling}
 use Rattle.machine.proofs.Bools.{chosen, or-fails}
 use Rattle.machine.specs.declared.Machine.{Machine}
 use Rattle.machine.specs.declared.Outcome.{Outcome}
@@ -26,12 +27,13 @@ use Rattle.rules.specs.declared.external.Effect.TheVariants.{Count}
 use Rattle.rules.specs.declared.external.Reach.{Reach}
 use Rattle.rules.specs.declared.external.Reach.TheVariants.{Other, Ignored, Error, Pmcntenset, Pmovsclr, Pmovsset}
 use Rattle.rules.specs.Overflow.{carries}
-use Rattle.rules.specs.External.{enables_shown, enables_written, ovs_counted, unless_refused_by, read_of, write_of, effect_of, enact}
+use Rattle.rules.specs.External.{enables_shown, enables_written, ovs_counted, unless_refused_by, read_of, write_of, effect_of}
+use Rattle.rules.specs.External.{enact}
 use Rattle.rules.specs.External.{sample, external_read, external_write, tick, member}
 use Rattle.rules.specs.Apply.{apply}
 use Rattle.rules.specs.Step.{decide, step}
-use Rattle.state.specs.declared.Verdict.{Verdict}
-use Rattle.state.specs.declared.Verdict.TheVariants.{Consistent, Refused}
+use Rattle.std.specs.Prelude.{Result, ⊤, Ok, Err}
+use Rattle.answer.specs.declared.Refusal.{Refusal}
 use Rattle.state.proofs.Consistent.{numbers_large}
 use Rattle.state.specs.State.{view_of, too_large}
 use Rattle.undo_claims.proofs.Refusal10.{is_refusal10, Passes, verdict-passes, step-spares}
@@ -124,10 +126,10 @@ module _ (r : Machine) (b : too_large (view_of r) ≡ false) where
       }
 
   refused-bounded :
-      (v : Verdict) (e : Effect) → Passes v → Bounded (enact e r) → Bounded (enact (unless_refused_by v e) r)
+      (v : Result ⊤ Refusal) (e : Effect) → Passes v → Bounded (enact e r) → Bounded (enact (unless_refused_by v e) r)
   unfolding Passes
-  refused-bounded Consistent e p q = q
-  refused-bounded (Refused n) e p q = says-bounded (Answer.Refused n) r p b
+  refused-bounded (Ok _) e p q = q
+  refused-bounded (Err n) e p q = says-bounded (Answer.Refused n) r p b
 
   read-of-bounded : (t : Reach) → Bounded (enact (read_of t r.settings) r)
   read-of-bounded Other = says-bounded _ r refl b

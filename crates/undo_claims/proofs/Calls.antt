@@ -11,6 +11,8 @@ use base.Stored.{Coded-set}
 use borrow.Fn.World.{World}
 use ghost.Sets.{retract_set}
 use lib.ListN.{take}
+use Rattle.std.specs.Prelude.{Result, Ok}
+use Rattle.answer.specs.declared.Refusal.{Refusal}
 use Rattle.access.specs.Calls.{Obeyed, Reference, to, shared}
 use Rattle.access.specs.InParts.{Stayed, saying_so}
 use Rattle.access.proofs.Calls.{asked, said, stated}
@@ -68,24 +70,25 @@ Access w word x m words answer left between =
     (saying_so answer left k)
 
 -- a call for a command: of `execute::access_decoded` for an access, of `execute::other` for any other
-pub data Call (w : World) : Command → Machine → List ℕ → Answer → Machine → List ℕ → Type 1 where
+pub data Call (w : World) : Result Command Refusal → Machine → List ℕ → Answer → Machine → List ℕ → Type 1 where
   access :
       {word x : ℕ} {m left : Machine} {words between : List ℕ} {answer : Answer}
       → Access w word x m words answer left between
-      → Call w (Command.Access word x) m words answer left between
+      → Call w (Ok (Command.Access word x)) m words answer left between
   other :
-      {c : Command} {m left : Machine} {words between : List ℕ} {answer : Answer}
+      {c : Result Command Refusal} {m left : Machine} {words between : List ℕ} {answer : Answer}
       → is_access c ≡ false
       → Other w c m words answer left between
       → Call w c m words answer left between
 
 module _ (w : World) where
   -- a call does what the definition says
-  Does : Command → Machine → List ℕ → Answer → Machine → List ℕ → Type 0
+  Does : Result Command Refusal → Machine → List ℕ → Answer → Machine → List ℕ → Type 0
   Does c m words answer left between = ∥ response_by (says answer left) between ≡ obey c (history_by m words) ∥₁
 
   other-does :
-      (c : Command) → is_access c ≡ false → (m : Machine) (words : List ℕ) (answer : Answer) (left : Machine) (between : List ℕ)
+      (c : Result Command Refusal) → is_access c ≡ false → (m : Machine) (words : List ℕ) (answer : Answer) (left : Machine)
+      (between : List ℕ)
       → Other w c m words answer left between
       → Does c m words answer left between
   unfolding Does
@@ -97,28 +100,28 @@ module _ (w : World) where
   access-does :
       (word x : ℕ) (m : Machine) (words : List ℕ) (answer : Answer) (left : Machine) (between : List ℕ)
       → Access w word x m words answer left between
-      → Does (Command.Access word x) m words answer left between
+      → Does (Ok (Command.Access word x)) m words answer left between
   unfolding Does
   access-does word x m words answer left between call =
       ∥∥₁_map
       (said w (Accessed (decode word) x m (saying_so answer left call.3) left.counters words between) (call.5 tt (asked w)))
-      (λ a. access-ran (Command.Access word x) m words answer left between word x (decode word) _ _ _ refl refl a refl
+      (λ a. access-ran (Ok (Command.Access word x)) m words answer left between word x (decode word) _ _ _ refl refl a refl
       call.4 refl)
 
   does :
-      {c : Command} {m left : Machine} {words between : List ℕ} {answer : Answer}
+      {c : Result Command Refusal} {m left : Machine} {words between : List ℕ} {answer : Answer}
       → Call w c m words answer left between
       → Does c m words answer left between
   does (access call) = access-does _ _ _ _ _ _ _ call
   does (other n call) = other-does _ n _ _ _ _ _ call
 
   -- so a run of calls answers and leaves what the commands, run by the definition, do
-  Performs : List Command → Machine → List ℕ → List Answer → Machine → List ℕ → Type 0
+  Performs : List (Result Command Refusal) → Machine → List ℕ → List Answer → Machine → List ℕ → Type 0
   Performs cs m words answers left words' =
       (answers ≡ (perform cs (history_by m words)).answers) × (history_by left words' ≡ (perform cs (history_by m words)).left)
 
   performs :
-      {cs : List Command} {m left : Machine} {words words' : List ℕ} {answers : List Answer}
+      {cs : List (Result Command Refusal)} {m left : Machine} {words words' : List ℕ} {answers : List Answer}
       → Run (Call w) cs m words answers left words'
       → ∥ Performs cs m words answers left words' ∥₁
   unfolding perform Does Performs

@@ -23,7 +23,8 @@ use Rattle.undo_claims.specs.Examples.{actual, expected, back_examples, premise,
 -- MODEL H11
 pub examples-hold : map actual back_examples ≡ map expected back_examples
 unfolding
-    largest set set_level view_of too_large refusals verdict_of store store_settings store_features store_mdcr2 store_mdcr3 store_pmuacr
+    largest set set_level view_of too_large refusals verdict_of store store_settings store_features store_mdcr2 store_mdcr3
+    store_pmuacr
     store_sampling
     named register syndrome decode written disabled_target stop_at_el3 counter_rules icntr_rules pmsicr_rules rules_of stop_of
     place_access add_mask decide_register decide incremented apply step from_bits
@@ -35,7 +36,8 @@ examples-hold = refl
 -- MODEL H7 and H11: what the claim asks of commands
 pub premises-hold : map premise premises ≡ premises
 unfolding
-    largest set set_level view_of too_large refusals verdict_of store store_settings store_features store_mdcr2 store_mdcr3 store_pmuacr
+    largest set set_level view_of too_large refusals verdict_of store store_settings store_features store_mdcr2 store_mdcr3
+    store_pmuacr
     store_sampling
     named register syndrome decode stop_at_el3 counter_rules rules_of stop_of decide_register decide apply step from_bits
     raised shown_of reach effect_of external_read external_write tick member

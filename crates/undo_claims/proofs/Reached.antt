@@ -6,6 +6,7 @@ use mathlib.Core.List.{List, [], ◌∷◌}
 use mathlib.Core.Path.{◌≡◌, refl, ap}
 use native.Mathlib.Omega.{arith}
 use lib.ListN.{take}
+use Rattle.std.specs.Prelude.{Result, Ok, Err}
 use Rattle.bits.proofs.Choice.{either}
 use Rattle.answer.specs.declared.Answer.{Answer}
 use Rattle.answer.specs.declared.Refusal.{Refusal}
@@ -64,7 +65,7 @@ take-fits (suc n) (m ∷ h) f = (f.0, take-fits n h f.1)
 abbrev Spares : Refusal → Type 0
 Spares r = is_refusal10 (Answer.Refused r) ≡ false
 
-abbrev Sparing : Command → Type 0
+abbrev Sparing : Result Command Refusal → Type 0
 Sparing = Met Spares
 
 -- record and list after a command, and its answer
@@ -98,22 +99,22 @@ module _ (k : History) (m : Fits k.machine) (h : AllFit k.earlier) where
   back_fits [] f = record { answer = refl; machine = m; earlier = tt }
   back_fits (e ∷ l) f = record { answer = refl; machine = f.0; earlier = f.1 }
 
-  obey-fits : (c : Command) → Sparing c → FitsOn (obey c k)
+  obey-fits : (c : Result Command Refusal) → Sparing c → FitsOn (obey c k)
   unfolding obey
-  obey-fits Command.End e = keeping-fits _ (says-bounded Answer.End k.machine refl m)
-  obey-fits (Command.Set f v) e = emptying-fits _ (set-bounded k.machine m f v)
-  obey-fits (Command.Level l) e = listing-fits _ (level-bounded k.machine m l)
-  obey-fits (Command.Access w x) e = listing-fits _ (step-bounded k.machine m w x)
-  obey-fits (Command.Read o) e = keeping-fits _ (read-bounded k.machine m o)
-  obey-fits (Command.Write o x) e = listing-fits _ (write-bounded k.machine m o x)
-  obey-fits (Command.Tick p) e = listing-fits _ (tick-command-bounded k.machine m p)
-  obey-fits Command.Back e = back_fits k.earlier h
-  obey-fits (Command.Member d) e = listing-fits _ (member-bounded k.machine m d)
-  obey-fits (Command.Bad n) e = keeping-fits _ (says-bounded (Answer.Refused n) k.machine e m)
+  obey-fits (Ok Command.End) e = keeping-fits _ (says-bounded Answer.End k.machine refl m)
+  obey-fits (Ok (Command.Set f v)) e = emptying-fits _ (set-bounded k.machine m f v)
+  obey-fits (Ok (Command.Level l)) e = listing-fits _ (level-bounded k.machine m l)
+  obey-fits (Ok (Command.Access w x)) e = listing-fits _ (step-bounded k.machine m w x)
+  obey-fits (Ok (Command.Read o)) e = keeping-fits _ (read-bounded k.machine m o)
+  obey-fits (Ok (Command.Write o x)) e = listing-fits _ (write-bounded k.machine m o x)
+  obey-fits (Ok (Command.Tick p)) e = listing-fits _ (tick-command-bounded k.machine m p)
+  obey-fits (Ok Command.Back) e = back_fits k.earlier h
+  obey-fits (Ok (Command.Member d)) e = listing-fits _ (member-bounded k.machine m d)
+  obey-fits (Err n) e = keeping-fits _ (says-bounded (Answer.Refused n) k.machine e m)
 
 -- the answers of such commands, from a record and list on that do not meet refusal 10
 answers-fit :
-    (cs : List Command) (k : History) → AllMet Spares cs → Fits k.machine → AllFit k.earlier
+    (cs : List (Result Command Refusal)) (k : History) → AllMet Spares cs → Fits k.machine → AllFit k.earlier
     → AllOf NotRefusal10 (perform cs k).answers
 unfolding perform
 answers-fit [] k f m h = tt

@@ -17,8 +17,8 @@ use Rattle.rules.specs.Permitted.{place_access}
 use Rattle.rules.specs.Apply.{apply}
 use Rattle.rules.specs.Step.{unless_stopped, unless_refused, decide_register, decide, step}
 use Rattle.rules.specs.Word.{decode}
-use Rattle.state.specs.declared.Verdict.{Verdict}
-use Rattle.state.specs.declared.Verdict.TheVariants.{Consistent, Refused}
+use Rattle.std.specs.Prelude.{Result, ⊤, Ok, Err}
+use Rattle.answer.specs.declared.Refusal.{Refusal}
 use Rattle.state.specs.declared.View.{View}
 use Rattle.state.specs.State.{view_of, too_large, refusals, verdict_of}
 
@@ -36,9 +36,9 @@ is_refusal10 (Answer.Mrs x t) = false
 is_refusal10 (Answer.Refused n) = eqb (refusal_number n) 10
 
 -- a verdict other than refusal 10
-unfoldable pub Passes : Verdict → Type 0
-Passes Consistent = Unit {0}
-Passes (Refused n) = is_refusal10 (Answer.Refused n) ≡ false
+unfoldable pub Passes : Result ⊤ Refusal → Type 0
+Passes (Ok _) = Unit {0}
+Passes (Err n) = is_refusal10 (Answer.Refused n) ≡ false
 
 pub verdict-passes : (v : View) → too_large v ≡ false → Passes (verdict_of v)
 unfolding verdict_of refusals Passes
@@ -63,10 +63,10 @@ module _ (r : Machine) where
   register-spares v Pmsicr i x = search (either (Spares r), stopped-spares)
   register-spares v Other i x = search stopped-spares
 
-  refused-spares : (v : Verdict) (d : Decision) → Passes v → Spares r d → Spares r (unless_refused v d)
+  refused-spares : (v : Result ⊤ Refusal) (d : Decision) → Passes v → Spares r d → Spares r (unless_refused v d)
   unfolding Passes apply
-  refused-spares Consistent d p q = q
-  refused-spares (Refused n) d p q = p
+  refused-spares (Ok _) d p q = q
+  refused-spares (Err n) d p q = p
 
   pub step-spares : (w x : ℕ) → too_large (view_of r) ≡ false → is_refusal10 (step w x r).answer ≡ false
   unfolding decide step

@@ -7,6 +7,8 @@ use mathlib.Core.Path.{◌≡◌, refl, sym, ◌∙◌, ap, ap₂}
 use native.Mathlib.Nat.{zero-add, add-zero}
 use native.Mathlib.Omega.{arith}
 use lib.ListN.{take, replicate, replicate-append-replicate}
+use Rattle.std.specs.Prelude.{Result, Ok, Err}
+use Rattle.answer.specs.declared.Refusal.{Refusal}
 use Rattle.answer.specs.declared.Answer.{Answer}
 use Rattle.answer.specs.Refused.{is_refused}
 use Rattle.command.specs.declared.Command.{Command}
@@ -105,25 +107,25 @@ word-stays w x r = step_stays r (decode w) x
 
 -- the steps back that a command adds take it back
 one :
-    (i n : ℕ) (c : Command) (k : History) → goes_on c (obey c k).answer ≡ true
+    (i n : ℕ) (c : Result Command Refusal) (k : History) → goes_on c (obey c k).answer ≡ true
     → cond (lists c (obey c k).answer) 1 0 + n + i ≤ capacity
     → back i (cond (lists c (obey c k).answer) 1 0 + n) (obey c k).left
     ≡ behind (cond (lists c (obey c k).answer) 1 0) (back i n k)
 unfolding obey
-one i n Command.End k g l = same i n k.machine k refl
-one i n (Command.Set f v) k g l = emptying-on i n (set f v k.machine) k (set-stays k.machine f v) g
-one i n (Command.Level m) k g l = listing-on i n (set_level m k.machine) k (level-stays k.machine m) l
-one i n (Command.Access w x) k g l = listing-on i n (step w x k.machine) k (word-stays w x k.machine) l
-one i n (Command.Read o) k g l = same i n (external_read o k.machine).machine k (read_same k.machine o)
-one i n (Command.Write o x) k g l = listing-on i n (external_write o x k.machine) k (write-stays k.machine o x) l
-one i n (Command.Tick p) k g l = listing-on i n (tick_command p k.machine) k (tick-stays k.machine p) l
-one i n Command.Back k g l = absurd (true≢false (sym g))
-one i n (Command.Member d) k g l = listing-on i n (member d k.machine) k (member-stays k.machine d) l
-one i n (Command.Bad r) k g l = same i n k.machine k refl
+one i n (Ok Command.End) k g l = same i n k.machine k refl
+one i n (Ok (Command.Set f v)) k g l = emptying-on i n (set f v k.machine) k (set-stays k.machine f v) g
+one i n (Ok (Command.Level m)) k g l = listing-on i n (set_level m k.machine) k (level-stays k.machine m) l
+one i n (Ok (Command.Access w x)) k g l = listing-on i n (step w x k.machine) k (word-stays w x k.machine) l
+one i n (Ok (Command.Read o)) k g l = same i n (external_read o k.machine).machine k (read_same k.machine o)
+one i n (Ok (Command.Write o x)) k g l = listing-on i n (external_write o x k.machine) k (write-stays k.machine o x) l
+one i n (Ok (Command.Tick p)) k g l = listing-on i n (tick_command p k.machine) k (tick-stays k.machine p) l
+one i n (Ok Command.Back) k g l = absurd (true≢false (sym g))
+one i n (Ok (Command.Member d)) k g l = listing-on i n (member d k.machine) k (member-stays k.machine d) l
+one i n (Err r) k g l = same i n k.machine k refl
 
 -- and those that commands add take them back, one after another
 all :
-    (i n : ℕ) (cs : List Command) (k : History) → forward cs k ≡ true → steps cs k + n + i ≤ capacity
+    (i n : ℕ) (cs : List (Result Command Refusal)) (k : History) → forward cs k ≡ true → steps cs k + n + i ≤ capacity
     → back i (steps cs k + n) (perform cs k).left ≡ behind (steps cs k) (back i n k)
 unfolding perform steps forward
 all i n [] k f l = same i n k.machine k refl

@@ -6,6 +6,8 @@ use mathlib.Core.List.{List, [], ◌∷◌}
 use mathlib.Core.Path.{◌≡◌, refl}
 use borrow.Fn.World.{World}
 use lib.ListN.{replicate}
+use Rattle.std.specs.Prelude.{Result, Ok}
+use Rattle.answer.specs.declared.Refusal.{Refusal}
 use Rattle.access.specs.InParts.{Stayed, saying_so}
 use Rattle.access.proofs.Calls.{asked, stated, any}
 use Rattle.answer.specs.declared.Answer.{Answer}
@@ -38,8 +40,8 @@ use Rattle.undo_claims.specs.Calls.{Run, none, next}
 use Rattle.undo_claims.proofs.Calls.{Other, Access, Call, access, other}
 
 -- the commands, and the records before, between and behind them: counters 0 and 1 hold 0, then 1; the level is 1, then 0
-abbrev commands : List Command
-commands = Command.Access 0xD51B9C81 3 ∷ Command.Level 0 ∷ []
+abbrev commands : List (Result Command Refusal)
+commands = Ok (Command.Access 0xD51B9C81 3) ∷ Ok (Command.Level 0) ∷ []
 
 abbrev start : Machine
 start = with_level 1 (set_all (counters_on []) usual)
@@ -58,7 +60,7 @@ words n = n ∷ n ∷ 0x1FE ∷ 3 ∷ 0 ∷ 0x1FF ∷ replicate 188 0
 module _ (w : World) where
   -- where the contract holds of what a call is said to give, the call may give it
   other-may :
-      {c : Command} (m : Machine) (before : List ℕ) (answer : Answer) (left : Machine) (behind : List ℕ)
+      {c : Result Command Refusal} (m : Machine) (before : List ℕ) (answer : Answer) (left : Machine) (behind : List ℕ)
       → Executed c m (says answer left) before behind
       → Other w c m before answer left behind
   other-may {c} m before answer left behind e =
@@ -84,7 +86,8 @@ module _ (w : World) where
       × (steps commands (history_by start (replicate 194 0)) ≡ 2)
       × Run (Call w) (steps_back 2) after (words 2) (Answer.Ok ∷ Answer.Ok ∷ []) start (words 0)
   unfolding
-      largest set set_all set_level usual view_of too_large refusals verdict_of store store_settings store_features store_mdcr2 store_mdcr3
+      largest set set_all set_level usual view_of too_large refusals verdict_of store store_settings store_features store_mdcr2
+      store_mdcr3
       store_pmuacr store_sampling
       named register syndrome decode written disabled_target stop_at_el3 counter_rules rules_of stop_of add_mask from_bits raised
       incremented apply decide_register decide step obey remember forward steps

@@ -4,11 +4,11 @@ use mathlib.Core.Bool.{Bool, true, false, cond}
 use mathlib.Core.List.{List, [], ◌∷◌}
 use mathlib.Core.Path.{◌≡◌, refl, sym, ◌∙◌, ap, ap₂}
 use lib.ListN.{take}
+use Rattle.std.specs.Prelude.{Some, None}
 use Rattle.answer.specs.declared.Answer.{Answer}
 use Rattle.answer.specs.declared.Refusal.TheVariants.{NothingToUndo}
 use Rattle.answer.specs.Refused.{is_refused}
 use Rattle.undo_words.specs.declared.Entry.{Entry}
-use Rattle.undo_words.specs.declared.Recalled.{Recalled}
 use Rattle.undo_words.specs.Journal.{capacity, entries, latest, rest}
 use Rattle.machine.specs.declared.Machine.{Machine}
 use Rattle.machine.specs.declared.Outcome.{Outcome}
@@ -93,28 +93,28 @@ is-kept r words p same stayed =
     ap (λ o. response_by o words) same ∙ ap (λ m. response p (earlier_by (entries words) m)) stayed
 
 -- the step back, from what is recalled and what then is listed
-module _ (r : Machine) (words words' : List ℕ) (found : Recalled) where
+module _ (r : Machine) (words words' : List ℕ) where
   pub nothing-back :
-      found ≡ Recalled.Nothing → found ≡ latest (entries words) → entries words' ≡ rest (entries words)
+      None ≡ latest (entries words) → entries words' ≡ rest (entries words)
       → response_by (refused NothingToUndo r) words' ≡ back_from r (earlier_by (entries words) r)
   unfolding earlier_by
-  nothing-back n l e = go (entries words) (sym n ∙ l) e
+  nothing-back l e = go (entries words) l e
     where
       go :
-          (es : List Entry) → Recalled.Nothing ≡ latest es → entries words' ≡ rest es
+          (es : List Entry) → None ≡ latest es → entries words' ≡ rest es
           → response_by (refused NothingToUndo r) words' ≡ back_from r (earlier_by es r)
       go [] l e = ap (λ es. response (refused NothingToUndo r) (earlier_by es r)) e
       go (x ∷ es) l e = cc
 
   pub latest-back :
-      {x : Entry} → found ≡ Recalled.Latest x → found ≡ latest (entries words) → entries words' ≡ rest (entries words)
+      {x : Entry} → Some x ≡ latest (entries words) → entries words' ≡ rest (entries words)
       → (m : Machine) → m ≡ undone x.undo r
       → response_by (says Answer.Ok m) words' ≡ back_from r (earlier_by (entries words) r)
   unfolding earlier_by
-  latest-back {x} n l e m u = go (entries words) (sym n ∙ l) e
+  latest-back {x} l e m u = go (entries words) l e
     where
       go :
-          (es : List Entry) → Recalled.Latest x ≡ latest es → entries words' ≡ rest es
+          (es : List Entry) → Some x ≡ latest es → entries words' ≡ rest es
           → response_by (says Answer.Ok m) words' ≡ back_from r (earlier_by es r)
       go [] l e = cc
       go (y ∷ es) l e =

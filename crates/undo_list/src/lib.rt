@@ -10,25 +10,22 @@ ghost use Rattle.undo_list.specs.Words.{earlier_by, response_by, noted};
 use answer::{Answer, Refusal};
 use machine::{Machine, Outcome};
 use undo::Undo;
-use undo_words::{Entry, Recalled};
+use undo_words::Entry;
 
 // Lists a command that answers a and of which u is kept, with a tag, unless it was refused.
 pub fn note(a: Answer, u: Undo, tag: u32, list: &mut [u64; 194])
     ensures { entries list.new ≡ noted a u tag (entries list.old) }
 {
-    if answer::is_refused(a) {
-        return;
+    if !a.is_refused() {
+        undo_words::remember(list, Entry { undo: u, tag });
     }
-    let e = Entry { undo: u, tag: tag };
-    undo_words::remember(list, e);
 }
 
 // The outcome of a command by value, of which u is kept, listed unless it was refused.
 pub fn listed(o: Outcome, u: Undo, list: &mut [u64; 194]) -> Outcome
     ensures { (result ≡ o) × (entries list.new ≡ noted o.answer u 0 (entries list.old)) }
 {
-    let a = o.answer;
-    note(a, u, 0, list);
+    note(o.answer, u, 0, list);
     o
 }
 
@@ -36,8 +33,7 @@ pub fn listed(o: Outcome, u: Undo, list: &mut [u64; 194]) -> Outcome
 pub fn forget(a: Answer, list: &mut [u64; 194])
     ensures { entries list.new ≡ cond (is_refused a) (entries list.old) [] }
 {
-    let refused = answer::is_refused(a);
-    if refused {
+    if a.is_refused() {
         return;
     }
     undo_words::empty(list);
@@ -48,18 +44,14 @@ pub fn back(r: Machine, list: &mut [u64; 194]) -> Outcome
     ensures { (response_by result list.new ≡ back_from r (earlier_by (entries list.old) r))
         × (entries list.new ≡ rest (entries list.old)) }
 {
-    let latest = undo_words::recall(list);
-    match latest {
-        Recalled::Nothing => Outcome {
+    match undo_words::recall(list) {
+        None => Outcome {
             answer: Answer::Refused(Refusal::NothingToUndo),
             machine: r,
         },
-        Recalled::Latest(e) => {
-            let u = e.undo;
-            Outcome {
-                answer: Answer::Ok,
-                machine: undo::undone(u, r),
-            }
-        }
+        Some(e) => Outcome {
+            answer: Answer::Ok,
+            machine: undo::undone(e.undo, r),
+        },
     }
 }

@@ -1,32 +1,12 @@
 -- Reading the entries of an undo list after stores to its words.
-use Prim.Native.Nat.{ℕ, ◌+◌, ◌*◌, ◌/◌, ◌%◌, ◌^◌, ◌≤◌, ◌<◌, min}
+use Prim.Native.Nat.{ℕ, ◌+◌, ◌*◌, ◌%◌, ◌≤◌, ◌<◌, min}
 use mathlib.Core.List.{List}
 use mathlib.Core.Logic.{◌≢◌}
 use mathlib.Core.Path.{◌≡◌, ◌∙◌}
 use native.Mathlib.Omega.{arith}
 use lib.ListN.{get_or, set, length, length-set}
 use lib.Seq.{get_or-set_same, get_or-set_other}
-use Rattle.undo_words.specs.declared.Entry.{Entry}
 use Rattle.undo_words.specs.Journal.{entry_of, entry_at, backwards, entries, capacity}
-
--- the entry that is read from three words, where field, level and tag are read from the first
-pub packed-entry :
-    (e : Entry) (first : ℕ)
-    → first % 2 ^ 8 ≡ e.undo.change.field
-    → first / 2 ^ 8 % 2 ^ 8 ≡ e.undo.level
-    → first / 2 ^ 16 % 2 ^ 32 ≡ e.tag
-    → entry_of first e.undo.change.old e.undo.ovs ≡ e
-packed-entry e first field level tag =
-    λ i.
-    record {
-      undo =
-          record {
-            change = record { field = field i; old = e.undo.change.old };
-            level = level i;
-            ovs = e.undo.ovs;
-          };
-      tag = tag i;
-    }
 
 -- an entry is the same where its three words are
 same-words :

@@ -1,7 +1,6 @@
 -- The undo list in words: what they stand for, whatever they hold.
-use Rattle.std.specs.Prelude.{ℕ, zero, suc, ◌+◌, ◌*◌, ◌/◌, ◌%◌, ◌^◌, min, List, [], ◌∷◌, get_or}
+use Rattle.std.specs.Prelude.{ℕ, zero, suc, ◌+◌, ◌*◌, ◌/◌, ◌%◌, ◌^◌, min, List, [], ◌∷◌, get_or, Option, Some, None}
 use Rattle.undo_words.specs.declared.Entry.{Entry}
-use Rattle.undo_words.specs.declared.Recalled.{Recalled}
 
 -- MODEL H3: how many commands are listed at most
 abbrev pub capacity : ℕ
@@ -39,9 +38,9 @@ unfoldable pub entries : List ℕ → List Entry
 entries words = backwards (min (get_or words 0 0) capacity) (get_or words 1 0 % 64) (entry_at words)
 
 -- MODEL H1: the latest of the entries
-abbrev pub latest : List Entry → Recalled
-latest [] = Recalled.Nothing
-latest (e ∷ es) = Recalled.Latest e
+abbrev pub latest : List Entry → Option Entry
+latest [] = None
+latest (e ∷ es) = Some e
 
 -- MODEL H1: the entries without the latest
 abbrev pub rest : List Entry → List Entry

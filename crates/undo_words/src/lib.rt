@@ -3,7 +3,7 @@
 // a list: the first two are read so that no place lies outside.
 #![tactic(auto)]
 
-ghost use Rattle.std.specs.Prelude.{◌≢◌, ◌≡◌, [], ◌∷◌, ℕ, ◌+◌, ◌/◌, ◌%◌, ◌^◌, ◌<◌, min, get_or, length, take};
+ghost use Rattle.std.specs.Prelude.{◌≢◌, ◌≡◌, [], ◌∷◌, ℕ, ◌+◌, ◌/◌, ◌%◌, ◌^◌, ◌<◌, min, get_or, take};
 ghost use Rattle.undo_words.specs.Journal.{entries, entry_at, backwards, latest, rest, capacity};
 
 use undo::{Change, Undo};
@@ -15,27 +15,11 @@ pub struct Entry {
     pub tag: u32,
 }
 
-// The latest entry, if there is one.
-#[derive(Clone, Copy)]
-pub enum Recalled {
-    Nothing,
-    Latest(Entry),
-}
-
 // How many entries are listed.
 fn used(list: &[u64; 194]) -> u64
     ensures { result ≡ min (get_or list.now 0 0) capacity }
 {
-    let n = list[0];
-    if n < 64 { n } else { 64 }
-}
-
-// How many are listed with one more.
-fn more(list: &[u64; 194]) -> u64
-    ensures { result ≡ min (get_or list.now 0 0 + 1) capacity }
-{
-    let n = list[0];
-    if n < 64 { n + 1 } else { 64 }
+    list[0].min(64)
 }
 
 // The place of the next entry.
@@ -58,26 +42,24 @@ fn entry_at(list: &[u64; 194], at: usize) -> Entry
     ensures { result ≡ entry_at list.now at }
 {
     let first = list[3 * at + 2];
-    let old = list[3 * at + 3];
-    let ovs = list[3 * at + 4];
     let change = Change {
         field: (first % 0x100) as u8,
-        old: old,
+        old: list[3 * at + 3],
     };
     let undo = Undo {
-        change: change,
+        change,
         level: (first / 0x100 % 0x100) as u8,
-        ovs: ovs,
+        ovs: list[3 * at + 4],
     };
     Entry {
-        undo: undo,
+        undo,
         tag: (first / 0x10000 % 0x100000000) as u32,
     }
 }
 
 // An entry put at a place: the others stay.
-fn put(list: &mut [u64], at: usize, e: Entry)
-    requires { (length list.old ≡ 194) × (at < 64) }
+fn put(list: &mut [u64; 194], at: usize, e: Entry)
+    requires { at < 64 }
     ensures { (entry_at list.new at ≡ e)
         × ((j : ℕ) → j ≢ at → entry_at list.new j ≡ entry_at list.old j) }
 {
@@ -87,8 +69,8 @@ fn put(list: &mut [u64], at: usize, e: Entry)
 }
 
 // The first two words: so many entries are listed, and the next will stand at this place.
-fn mark(list: &mut [u64], n: u64, at: usize)
-    requires { length list.old ≡ 194 }
+#[tactic(auto, using(crate::proofs::Words::marked))]
+fn mark(list: &mut [u64; 194], n: u64, at: usize)
     ensures { entries list.new ≡ backwards (min n capacity) (at % 64) (entry_at list.old) }
 {
     list[0] = n;
@@ -99,28 +81,26 @@ fn mark(list: &mut [u64], n: u64, at: usize)
 pub fn remember(list: &mut [u64; 194], e: Entry)
     ensures { entries list.new ≡ take capacity (e ∷ entries list.old) }
 {
-    let n = more(list);
+    let n = (used(list) + 1).min(64);
     let at = next(list);
     put(list, at, e);
     mark(list, n, (at + 1) % 64);
 }
 
 // MODEL H1: the latest entry, which leaves the list.
-pub fn recall(list: &mut [u64; 194]) -> Recalled
+pub fn recall(list: &mut [u64; 194]) -> Option<Entry>
     ensures { (result ≡ latest (entries list.old))
         × (entries list.new ≡ rest (entries list.old)) }
 {
-    let n = used(list);
-    if n == 0 {
-        return Recalled::Nothing;
-    }
+    let left = used(list).checked_sub(1)?;
     let at = (next(list) + 63) % 64;
     let e = entry_at(list, at);
-    mark(list, n - 1, at);
-    Recalled::Latest(e)
+    mark(list, left, at);
+    Some(e)
 }
 
 // MODEL H5: no entry is left.
+#[tactic(auto, unfolding(crate::specs::Journal::backwards))]
 pub fn empty(list: &mut [u64; 194])
     ensures { entries list.new ≡ [] }
 {

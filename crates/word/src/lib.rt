@@ -4,7 +4,7 @@
 
 ghost use Rattle.std.specs.Prelude.{◌≡◌};
 ghost use Rattle.rules.specs.Word.{is_read, rt, register, syndrome, decode, written};
-ghost use Rattle.word.specs.Codes.{has_place, place_of, codes};
+ghost use Rattle.word.specs.Codes.{has_place, place_of};
 
 pub mod table; // table.rt: the table of registers
 
@@ -15,11 +15,7 @@ fn has_place(w: u32) -> bool
     ensures { result ≡ has_place w }
 {
     let is_move = ((w >> 22) % 1024 == 0x354) & ((w >> 20) % 2 == 1);
-    if is_move & ((w >> 19) % 2 + 2 == 3) {
-        let crn = (w >> 12) % 16;
-        return (crn == 9) | (crn == 14);
-    }
-    false
+    is_move && (w >> 19) % 2 + 2 == 3 && matches!((w >> 12) % 16, 9 | 14)
 }
 
 // The place of a word in the table: the lowest bit of CRn, then CRm, then op2.
@@ -30,6 +26,7 @@ fn place(w: u32) -> u8
 }
 
 // The register that a word names: `Other` for every word that names none of the model's.
+#[tactic(auto, using(crate::proofs::Found::found, crate::proofs::Found::missed))]
 fn register(w: u32) -> Register
     ensures { result ≡ register w }
 {
@@ -39,19 +36,8 @@ fn register(w: u32) -> Register
     Register::Other
 }
 
-// The same, with the table lent.
-fn register_by(registers: &[u8; 256], w: u32) -> Register
-    requires { registers.now ≡ codes }
-    ensures { result ≡ register w }
-{
-    if has_place(w) {
-        let code = registers[place(w) as usize];
-        return table::coded(code, ((w >> 16) % 8) as u8);
-    }
-    Register::Other
-}
-
 // The syndrome of a trapped access.
+#[tactic(auto, unfolding(rules::specs::Word::syndrome))]
 fn syndrome(w: u32) -> u32
     ensures { result ≡ syndrome w }
 {
@@ -79,21 +65,15 @@ fn with_register(register: Register, w: u32) -> Instruction
 }
 
 // A word taken apart.
+#[tactic(auto, unfolding(rules::specs::Word::decode))]
 pub fn decode(w: u32) -> Instruction
     ensures { result ≡ decode w }
 {
     with_register(register(w), w)
 }
 
-// The same, with the table of registers lent: for a caller that takes many words apart and makes the table once.
-pub fn decode_by(registers: &[u8; 256], w: u32) -> Instruction
-    requires { registers.now ≡ codes }
-    ensures { result ≡ decode w }
-{
-    with_register(register_by(registers, w), w)
-}
-
 // What a write stores: with Rt 31 the operand is 0.
+#[tactic(auto, unfolding(rules::specs::Word::written))]
 pub fn written(i: Instruction, operand: u64) -> u64
     ensures { result ≡ written i operand }
 {

@@ -77,29 +77,32 @@ const REGISTERS: [u8; 256] = [
     0, 0, 0, 0, 0, 0, 0, 0,
 ];
 
-// The whole table.
-pub fn registers() -> [u8; 256]
-    ensures { result ≡ codes }
+// The whole table, where it stands: no call copies it.
+#[tactic(auto, unfolding(rules::specs::Word::named, crate::specs::Codes::code_at, crate::specs::Codes::codes))]
+pub fn registers() -> &'static [u8; 256]
+    ensures { result.now ≡ codes }
 {
-    REGISTERS
+    &REGISTERS
 }
 
 // The code at a place.
+#[tactic(auto, using(crate::proofs::Tabulate::entry))]
 pub fn code(place: u8) -> u8
     ensures { result ≡ code_at place }
 {
-    let registers = registers();
-    registers[place as usize]
+    registers()[place as usize]
 }
 
 // The register that a code stands for in words with this op1.
+#[tactic(auto, unfolding(crate::specs::Codes::coded))]
 pub fn coded(code: u8, op1: u8) -> Register
     ensures { result ≡ coded code op1 }
 {
-    if op1 != code / 64 {
+    // op1 taken off the code's bits 7:6: with another op1 more is left than a number of 6 bits
+    let number = (code as u32).wrapping_sub(op1 as u32 * 64);
+    if number >= 64 {
         return Register::Other;
     }
-    let number = code % 64;
     if number >= 32 {
         return Register::Pmevcntr((number % 32) as u64);
     }

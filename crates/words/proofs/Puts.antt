@@ -9,7 +9,7 @@ use lib.Dec.{leb, eqb, lit<}
 use lib.ListN.{length, get_or, set, take, drop, length-append, length-take, length-drop, length-set, take-append-drop}
 use lib.ListN.{get_or-append}
 use native.Mathlib.Nat.{mod-eq_of_lt}
-use lib.Seq.{get_or-set_same, get_or-set_other, drop-set-add, take-set-le}
+use lib.Seq.{get_or-set_same, get_or-set_other, drop-set-add, drop-set-lt, take-set-le, take-set-lt}
 use lib.Seq.{get_or-take, get_or-drop, get_or-append-add, drop_at, drop-append-le, take-append-le, take_at, set-get_or}
 use Rattle.fields.specs.Largest.{largest}
 use Rattle.machine.proofs.Bools.{or_left, or_right}
@@ -44,14 +44,23 @@ settings-same t s same =
     go k true e = refl
     go k false e = same k e
 
+-- the same event counters put
+pub counters-stay : (s : List ℕ) → put_counters (counters_of s) s ≡ s
+counters-stay s = ap (λ (l : List ℕ). take 0x60 s ++ l) (take-append-drop 31 (drop 0x60 s)) ∙ take-append-drop 0x60 s
+
+-- one event counter put
+pub counter-set : (s : List ℕ) (k v : ℕ) → k < 31 → set s (0x60 + k) v ≡ put_counters (set (counters_of s) k v) s
+counter-set s k v j =
+    let t = set s (0x60 + k) v in
+    let from : drop 0x60 t ≡ set (drop 0x60 s) k v = drop-set-add 0x60 s k v in
+    let below : take 0x60 t ≡ take 0x60 s = take-set-le 0x60 s (0x60 + k) v (omega arith) in
+    let there : take 31 (drop 0x60 t) ≡ set (counters_of s) k v = ap (take 31) from ∙ take-set-lt 31 (drop 0x60 s) k v j in
+    let above : drop 31 (drop 0x60 t) ≡ drop 31 (drop 0x60 s) = ap (drop 31) from ∙ drop-set-lt 31 (drop 0x60 s) k v j in
+    sym (counters-stay t) ∙ (λ i. below i ++ (there i ++ above i))
+
 module _ (s : List ℕ) (h : length s ≡ word_count) where
   front : length (take 0x60 s) ≡ 0x60
   front = length-take 0x60 s ∙ omega (arith, h)
-
-  -- the same event counters put
-  counters-stay : put_counters (take 31 (drop 0x60 s)) s ≡ s
-  counters-stay =
-      ap (λ (l : List ℕ). take 0x60 s ++ l) (take-append-drop 31 (drop 0x60 s)) ∙ take-append-drop 0x60 s
 
   module _ (c : List ℕ) (e : length c ≡ 31) where
     pub put-long : length (put_counters c s) ≡ word_count
@@ -192,7 +201,7 @@ module _ (s : List ℕ) (h : length s ≡ word_count) where
   pub put-stays : put (record_of s) s ≡ s
   unfolding put record_of settings_of
   put-stays =
-      ap (λ (t : List ℕ). put_values (values_of (word s)) (set t 0x34 (word s 0x34))) (counters-stay s h)
+      ap (λ (t : List ℕ). put_values (values_of (word s)) (set t 0x34 (word s 0x34))) (counters-stay s)
       ∙ ap (put_values (values_of (word s))) (set-get_or s 0x34 0)
       ∙ values-stay s
 
@@ -214,7 +223,7 @@ module _ (s : List ℕ) (h : length s ≡ word_count) where
     unfolding put
     put-outside e =
         ap (λ (t : List ℕ). put_values m.values (set t 0x34 m.settings.cnten))
-        (sym (ap (λ (c : List ℕ). put_counters c s) e ∙ counters-stay s h))
+        (sym (ap (λ (c : List ℕ). put_counters c s) e ∙ counters-stay s))
 
 -- the level's word, which no field has
 module _ (s : List ℕ) (h : length s ≡ word_count) (l : ℕ) (j : l < 2 ^ 8) where
@@ -226,7 +235,8 @@ module _ (s : List ℕ) (h : length s ≡ word_count) (l : ℕ) (j : l < 2 ^ 8) 
   levelled i =
       record {
         level =
-            (ap (λ (n : ℕ). n % 2 ^ 8) (get_or-set_same s level_word l 0 (omega (arith, h))) ∙ mod-eq_of_lt {n = l} {m = 2 ^ 8} j) i;
+            (ap (λ (n : ℕ). n % 2 ^ 8) (get_or-set_same s level_word l 0 (omega (arith, h)))
+            ∙ mod-eq_of_lt {n = l} {m = 2 ^ 8} j) i;
         settings =
             settings-same (set s level_word l) s
             (λ k o. others k (eqb-false k level_word (or_right (within 0x60 0x7E k) (eqb k level_word) o))) i;

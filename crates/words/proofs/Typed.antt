@@ -4,7 +4,7 @@ use mathlib.Core.Bool.{Bool, true, false, not, ◌&&◌, ◌||◌, or-false}
 use mathlib.Core.List.{List, [], ◌∷◌}
 use mathlib.Core.Path.{◌≡◌, refl, ◌∙◌, ap}
 use native.Mathlib.Omega.{arith}
-use borrow.Author.Tests.{eqb-false, le-ltb}
+use borrow.Author.Tests.{eqb-false, le-ltb, not-true}
 use lib.Dec.{eqb, ltb}
 use lib.ListN.{length, set, length-set}
 use lib.Seq.{get_or-set_same, get_or-set_other}
@@ -20,10 +20,6 @@ use Rattle.words.proofs.Puts.{put-long, word-stays}
 -- word k is one of those that calls change, but for the level's
 abbrev changes : ℕ → Bool
 changes k = within 0x60 0x7E k || eqb k 0x34 || eqb k 0x37 || eqb k 0x7F || eqb k 0x8C || eqb k 0x8D
-
-not-true : (b : Bool) → not b ≡ true → b ≡ false
-not-true true e = cc
-not-true false e = refl
 
 module _ (s : List ℕ) (h : length s ≡ word_count) (m : Machine) (l : length m.counters ≡ 31) where
   pub put-size : length (put m s) ≡ word_count
@@ -93,7 +89,8 @@ pub level-typed :
 unfolding untyped
 level-typed s h l j e =
     let low = or_left
-    (any_above 1 (words_at (numbers is_flag 0x00 0x8E) s) || any_above (2 ^ 16 - 1) (words_at (numbers (within 0x40 0x5E) 0x40 31) s))
+    (any_above 1 (words_at (numbers is_flag 0x00 0x8E) s) || any_above (2 ^ 16 - 1) (words_at (numbers (within 0x40 0x5E) 0x40 31)
+    s))
     (ltb (2 ^ 8 - 1) (word s level_word)) e in
     let flags = words-besides s l (numbers is_flag 0x00 0x8E) refl in
     let events = words-besides s l (numbers (within 0x40 0x5E) 0x40 31) refl in

@@ -1,17 +1,19 @@
 -- Words united bit by bit are above 2^k - 1 exactly where one of them is; so one test serves all words of a kind.
-use Prim.Native.Nat.{ℕ, ◌-◌, ◌^◌, ◌<◌, ◌≤◌}
+use Prim.Native.Nat.{ℕ, ◌+◌, ◌-◌, ◌^◌, ◌<◌, ◌≤◌}
 use mathlib.Core.Bool.{Bool, true, false, ◌||◌, or-false, or_assoc}
-use mathlib.Core.List.{List, [], ◌∷◌, ◌++◌}
+use mathlib.Core.List.{List, [], ◌∷◌}
 use mathlib.Core.Path.{◌≡◌, refl, sym, ◌∙◌, ap}
 use native.Mathlib.Omega.{arith}
 use borrow.Author.Tests.{lt-ltb, le-ltb, ltb-true, ltb-false}
 use lib.Bits.{bit_or, or_lt, or_add_and, and_le_l, and_le_r}
 use lib.Dec.{ltb}
-use lib.ListN.{get_or}
+use lib.ListN.{length, get_or, take, drop}
 use lib.Pow.{pow_pos}
+use Rattle.std.specs.List.{range_with_len}
 use Rattle.fields.specs.Largest.{is_flag}
 use Rattle.store.specs.Store.{within}
-use Rattle.words.specs.Words.{level_word}
+use Rattle.words.specs.Words.{level_word, word_count}
+use Rattle.words.proofs.Run.{run}
 use Rattle.words.specs.Untyped.{numbers, words_at, any_above, united, untyped}
 
 module _ (k a b : ℕ) where
@@ -45,51 +47,53 @@ united-above k acc (x ∷ xs) =
     ∙ ap (λ b. b || any_above (2 ^ k - 1) xs) (or_above k acc x)
     ∙ or_assoc (ltb (2 ^ k - 1) acc) (ltb (2 ^ k - 1) x) (any_above (2 ^ k - 1) xs)
 
--- the words with some numbers, united part by part
-module _ (s : List ℕ) where
-  unite : List ℕ → ℕ → ℕ
-  unite ks acc = united acc (words_at ks s)
+module _ (s : List ℕ) (long : length s ≡ word_count) where
+  -- a run of them more
+  more :
+      (a n : ℕ) → a + n ≤ word_count → {x y z : ℕ} → y ≡ united x (take n (drop a s)) → x ≡ z
+      → y ≡ united z (words_at (range_with_len a n) s)
+  more a n h {x = x} {z = z} e p =
+      e ∙ ap (united x) (run s a n (omega (arith, long, h))) ∙ ap (λ x. united x (words_at (range_with_len a n) s)) p
 
-  split : (a b : List ℕ) (acc : ℕ) → unite b (unite a acc) ≡ unite (a ++ b) acc
-  unfolding unite
-  split [] b acc = refl
-  split (k ∷ ks) b acc = split ks b (bit_or acc (get_or s k 0))
+  pub flags-united :
+      {a b c d e f g h : ℕ}
+      → a ≡ united 0 (take 12 (drop 0x00 s))
+      → b ≡ united a (take 3 (drop 0x10 s))
+      → c ≡ united b (take 7 (drop 0x20 s))
+      → d ≡ united c (take 10 (drop 0x28 s))
+      → e ≡ united (bit_or d (get_or s 0x33 0)) (take 2 (drop 0x35 s))
+      → f ≡ united e (take 7 (drop 0x38 s))
+      → g ≡ united f (take 8 (drop 0x80 s))
+      → h ≡ united g (take 2 (drop 0x89 s))
+      → h ≡ united 0 (words_at (numbers is_flag 0x00 0x8E) s)
+  flags-united p q r t u v w x =
+      let to-31 =
+      more 0x28 10 (omega arith) t
+      (more 0x20 7 (omega arith) r (more 0x10 3 (omega arith) q (more 0x00 12 (omega arith) p refl))) in
+      let to-36 = more 0x35 2 (omega arith) u (ap (λ d. bit_or d (get_or s 0x33 0)) to-31) in
+      more 0x89 2 (omega arith) x (more 0x80 8 (omega arith) w (more 0x38 7 (omega arith) v to-36))
 
-  -- two parts
-  two :
-      (a b whole : List ℕ) → a ++ b ≡ whole → {x y : ℕ} → x ≡ united 0 (words_at a s) → y ≡ united x (words_at b s)
-      → y ≡ united 0 (words_at whole s)
-  unfolding unite
-  two a b whole e p q = q ∙ ap (unite b) p ∙ split a b 0 ∙ ap (λ ks. unite ks 0) e
+  pub events-united : {e : ℕ} → e ≡ united 0 (take 31 (drop 0x40 s)) → e
+      ≡ united 0 (words_at (numbers (within 0x40 0x5E) 0x40 31) s)
+  events-united p = more 0x40 31 (omega arith) p refl
 
-  -- the test of the words of a kind, by the largest value 2^k - 1
-  tested : (k : ℕ) (ks : List ℕ) {u : ℕ} → u ≡ united 0 (words_at ks s)
-      → ltb (2 ^ k - 1) u ≡ any_above (2 ^ k - 1) (words_at ks s)
-  tested k ks e =
-      ap (ltb (2 ^ k - 1)) e ∙ united-above k 0 (words_at ks s)
-      ∙ ap (λ b. b || any_above (2 ^ k - 1) (words_at ks s)) (le-ltb (2 ^ k - 1) 0 (omega arith))
+-- the test of the words of a kind, by the largest value 2^k - 1
+tested :
+    (s : List ℕ) (k : ℕ) (ks : List ℕ) {u : ℕ} → u ≡ united 0 (words_at ks s)
+    → ltb (2 ^ k - 1) u ≡ any_above (2 ^ k - 1) (words_at ks s)
+tested s k ks e =
+    ap (ltb (2 ^ k - 1)) e ∙ united-above k 0 (words_at ks s)
+    ∙ ap (λ b. b || any_above (2 ^ k - 1) (words_at ks s)) (le-ltb (2 ^ k - 1) 0 (omega arith))
 
-abbrev flags_in : ℕ → ℕ → List ℕ
-flags_in i k = numbers is_flag i k
-
-abbrev events_in : ℕ → ℕ → List ℕ
-events_in i k = numbers (within 0x40 0x5E) i k
-
-pub in_parts :
-    (s : List ℕ) {a b c d e f : ℕ}
-    → a ≡ united 0 (words_at (flags_in 0x00 0x20) s)
-    → b ≡ united a (words_at (flags_in 0x20 0x10) s)
-    → c ≡ united b (words_at (flags_in 0x30 0x50) s)
-    → d ≡ united c (words_at (flags_in 0x80 0x0E) s)
-    → e ≡ united 0 (words_at (events_in 0x40 16) s)
-    → f ≡ united e (words_at (events_in 0x50 15) s)
-    → ltb 1 d || ltb 0xFFFF f || ltb 0xFF (get_or s level_word 0) ≡ untyped s
+-- the three tests
+pub all-tests :
+    (s : List ℕ) {f e : ℕ}
+    → f ≡ united 0 (words_at (numbers is_flag 0x00 0x8E) s)
+    → e ≡ united 0 (words_at (numbers (within 0x40 0x5E) 0x40 31) s)
+    → ltb 1 f || ltb 0xFFFF e || ltb 0xFF (get_or s level_word 0) ≡ untyped s
 unfolding untyped
-in_parts s {d = d} {f = f} p q r t u v =
-    let before-30 = two s (flags_in 0x00 0x20) (flags_in 0x20 0x10) (flags_in 0x00 0x30) refl p q in
-    let before-80 = two s (flags_in 0x00 0x30) (flags_in 0x30 0x50) (flags_in 0x00 0x80) refl before-30 r in
-    let flags = two s (flags_in 0x00 0x80) (flags_in 0x80 0x0E) (flags_in 0x00 0x8E) refl before-80 t in
-    let events = two s (events_in 0x40 16) (events_in 0x50 15) (events_in 0x40 31) refl u v in
-    let above : ltb 1 d ≡ any_above 1 (words_at (flags_in 0x00 0x8E) s) = tested s 1 (flags_in 0x00 0x8E) flags in
-    let past : ltb 0xFFFF f ≡ any_above 0xFFFF (words_at (events_in 0x40 31) s) = tested s 16 (events_in 0x40 31) events in
+all-tests s {f = f} {e = e} p q =
+    let above : ltb 1 f ≡ any_above 1 (words_at (numbers is_flag 0x00 0x8E) s) = tested s 1 (numbers is_flag 0x00 0x8E) p in
+    let past : ltb 0xFFFF e ≡ any_above 0xFFFF (words_at (numbers (within 0x40 0x5E) 0x40 31) s) =
+    tested s 16 (numbers (within 0x40 0x5E) 0x40 31) q in
     (λ i. above i || past i || ltb 0xFF (get_or s level_word 0))

@@ -1,6 +1,7 @@
 -- Words that no record by value can have: a field of one bit above 1, an event number above 0xFFFF, a level above 255.
 use Rattle.std.specs.Prelude.{ℕ, zero, suc, ◌-◌, ◌^◌, Bool, false, cond, ◌||◌, List, [], ◌∷◌, map, ltb}
 use Rattle.std.specs.Int.Bits.{bit_or}
+use Rattle.std.specs.List.{fold}
 use Rattle.store.specs.Store.{within}
 use Rattle.fields.specs.Largest.{is_flag}
 use Rattle.words.specs.Words.{word, level_word}
@@ -21,8 +22,7 @@ any_above most (x ∷ xs) = ltb most x || any_above most xs
 
 -- MODEL X14: a number and words, united bit by bit
 abbrev pub united : ℕ → List ℕ → ℕ
-united acc [] = acc
-united acc (x ∷ xs) = united (bit_or acc x) xs
+united = fold bit_or
 
 -- MODEL R10 and X14: a word is above what the field's type has in a record by value
 unfoldable pub untyped : List ℕ → Bool

@@ -1,32 +1,41 @@
 // The record that the words hold, taken from them group by group. The definitions are in specs/Words.antt.
-ghost use Rattle.std.specs.Prelude.{◌≡◌, length};
+ghost use Rattle.std.specs.Prelude.{◌≡◌, ◌<◌};
 ghost use Rattle.words.specs.Words.{features_of, execution_of, pmcr_of, pmuserenr_of, hcr_of, mdcr2_of, mdcr3_of, scr_of};
 ghost use Rattle.words.specs.Words.{hdfgrtr_of, hdfgwtr_of, pmuacr_of, sampling_of, external_of};
-ghost use Rattle.words.specs.Words.{settings_of, values_of, events_of, word, word_count};
+ghost use Rattle.words.specs.Words.{settings_of, values_of, events_of, level_of, word, on, word_count};
 
 use machine::{
     Execution, External, Features, Hcr, Hdfgrtr, Hdfgwtr, Mdcr2, Mdcr3, Pmcr, Pmuacr, Pmuserenr,
     Sampling, Scr, Settings, Values,
 };
 
+// The field of one bit with this number: the lowest bit of its word.
+#[inline]
+pub fn on(m: &[u64; 143], k: usize) -> bool
+    requires { k < word_count }
+    ensures { result ≡ on k (word m.now) }
+{
+    m[k] % 2 == 1
+}
+
 fn features(m: &[u64; 143]) -> Features
     ensures { result ≡ features_of (word m.now) }
 {
     Features {
-        pmuv3: m[0x00] % 2 == 1,
-        p5: m[0x01] % 2 == 1,
-        p9: m[0x02] % 2 == 1,
-        icntr: m[0x03] % 2 == 1,
-        fgt: m[0x04] % 2 == 1,
-        fgt2: m[0x05] % 2 == 1,
-        hpmn0: m[0x06] % 2 == 1,
-        ext32: m[0x07] % 2 == 1,
-        ext64: m[0x08] % 2 == 1,
-        el2: m[0x09] % 2 == 1,
-        el3: m[0x0A] % 2 == 1,
-        el3prio: m[0x0B] % 2 == 1,
-        spe: m[0x80] % 2 == 1,
-        ernd: m[0x81] % 2 == 1,
+        pmuv3: on(m, 0x00),
+        p5: on(m, 0x01),
+        p9: on(m, 0x02),
+        icntr: on(m, 0x03),
+        fgt: on(m, 0x04),
+        fgt2: on(m, 0x05),
+        hpmn0: on(m, 0x06),
+        ext32: on(m, 0x07),
+        ext64: on(m, 0x08),
+        el2: on(m, 0x09),
+        el3: on(m, 0x0A),
+        el3prio: on(m, 0x0B),
+        spe: on(m, 0x80),
+        ernd: on(m, 0x81),
         n: m[0x0C],
     }
 }
@@ -35,9 +44,9 @@ fn execution(m: &[u64; 143]) -> Execution
     ensures { result ≡ execution_of (word m.now) }
 {
     Execution {
-        el2enabled: m[0x10] % 2 == 1,
-        halted: m[0x11] % 2 == 1,
-        sdd: m[0x12] % 2 == 1,
+        el2enabled: on(m, 0x10),
+        halted: on(m, 0x11),
+        sdd: on(m, 0x12),
     }
 }
 
@@ -45,8 +54,8 @@ fn pmcr(m: &[u64; 143]) -> Pmcr
     ensures { result ≡ pmcr_of (word m.now) }
 {
     Pmcr {
-        e: m[0x3D] % 2 == 1,
-        lp: m[0x35] % 2 == 1,
+        e: on(m, 0x3D),
+        lp: on(m, 0x35),
     }
 }
 
@@ -54,11 +63,11 @@ fn pmuserenr(m: &[u64; 143]) -> Pmuserenr
     ensures { result ≡ pmuserenr_of (word m.now) }
 {
     Pmuserenr {
-        en: m[0x20] % 2 == 1,
-        sw: m[0x21] % 2 == 1,
-        er: m[0x22] % 2 == 1,
-        uen: m[0x23] % 2 == 1,
-        ir: m[0x31] % 2 == 1,
+        en: on(m, 0x20),
+        sw: on(m, 0x21),
+        er: on(m, 0x22),
+        uen: on(m, 0x23),
+        ir: on(m, 0x31),
     }
 }
 
@@ -66,10 +75,10 @@ fn hcr(m: &[u64; 143]) -> Hcr
     ensures { result ≡ hcr_of (word m.now) }
 {
     Hcr {
-        e2h: m[0x24] % 2 == 1,
-        tge: m[0x25] % 2 == 1,
-        nv: m[0x84] % 2 == 1,
-        nv2: m[0x85] % 2 == 1,
+        e2h: on(m, 0x24),
+        tge: on(m, 0x25),
+        nv: on(m, 0x84),
+        nv2: on(m, 0x85),
     }
 }
 
@@ -77,10 +86,10 @@ fn mdcr2(m: &[u64; 143]) -> Mdcr2
     ensures { result ≡ mdcr2_of (word m.now) }
 {
     Mdcr2 {
-        tpm: m[0x26] % 2 == 1,
-        hpme: m[0x3E] % 2 == 1,
-        hlp: m[0x36] % 2 == 1,
-        tpms: m[0x86] % 2 == 1,
+        tpm: on(m, 0x26),
+        hpme: on(m, 0x3E),
+        hlp: on(m, 0x36),
+        tpms: on(m, 0x86),
         hpmn: m[0x27],
     }
 }
@@ -89,8 +98,8 @@ fn mdcr3(m: &[u64; 143]) -> Mdcr3
     ensures { result ≡ mdcr3_of (word m.now) }
 {
     Mdcr3 {
-        tpm: m[0x28] % 2 == 1,
-        enpm2: m[0x29] % 2 == 1,
+        tpm: on(m, 0x28),
+        enpm2: on(m, 0x29),
         nspb: m[0x88],
     }
 }
@@ -99,9 +108,9 @@ fn scr(m: &[u64; 143]) -> Scr
     ensures { result ≡ scr_of (word m.now) }
 {
     Scr {
-        fgten: m[0x2A] % 2 == 1,
-        fgten2: m[0x2B] % 2 == 1,
-        ns: m[0x87] % 2 == 1,
+        fgten: on(m, 0x2A),
+        fgten2: on(m, 0x2B),
+        ns: on(m, 0x87),
     }
 }
 
@@ -109,9 +118,9 @@ fn hdfgrtr(m: &[u64; 143]) -> Hdfgrtr
     ensures { result ≡ hdfgrtr_of (word m.now) }
 {
     Hdfgrtr {
-        pmevcntrn: m[0x2C] % 2 == 1,
-        pmsicr: m[0x89] % 2 == 1,
-        npmicntr: m[0x2F] % 2 == 1,
+        pmevcntrn: on(m, 0x2C),
+        pmsicr: on(m, 0x89),
+        npmicntr: on(m, 0x2F),
     }
 }
 
@@ -119,10 +128,10 @@ fn hdfgwtr(m: &[u64; 143]) -> Hdfgwtr
     ensures { result ≡ hdfgwtr_of (word m.now) }
 {
     Hdfgwtr {
-        pmevcntrn: m[0x2D] % 2 == 1,
-        pmswinc: m[0x2E] % 2 == 1,
-        pmsicr: m[0x8A] % 2 == 1,
-        npmicntr: m[0x30] % 2 == 1,
+        pmevcntrn: on(m, 0x2D),
+        pmswinc: on(m, 0x2E),
+        pmsicr: on(m, 0x8A),
+        npmicntr: on(m, 0x30),
     }
 }
 
@@ -131,7 +140,7 @@ fn pmuacr(m: &[u64; 143]) -> Pmuacr
 {
     Pmuacr {
         p: m[0x32],
-        f0: m[0x33] % 2 == 1,
+        f0: on(m, 0x33),
     }
 }
 
@@ -139,8 +148,8 @@ fn sampling(m: &[u64; 143]) -> Sampling
     ensures { result ≡ sampling_of (word m.now) }
 {
     Sampling {
-        rnd: m[0x82] % 2 == 1,
-        profiling: m[0x83] % 2 == 1,
+        rnd: on(m, 0x82),
+        profiling: on(m, 0x83),
         reload: m[0x8B],
     }
 }
@@ -149,15 +158,16 @@ fn external(m: &[u64; 143]) -> External
     ensures { result ≡ external_of (word m.now) }
 {
     External {
-        powered: m[0x38] % 2 == 1,
-        doublelock: m[0x39] % 2 == 1,
-        oslock: m[0x3A] % 2 == 1,
-        allowed: m[0x3B] % 2 == 1,
-        softwarelock: m[0x3C] % 2 == 1,
+        powered: on(m, 0x38),
+        doublelock: on(m, 0x39),
+        oslock: on(m, 0x3A),
+        allowed: on(m, 0x3B),
+        softwarelock: on(m, 0x3C),
     }
 }
 
 // The settings.
+#[tactic(auto, unfolding(crate::specs::Words::settings_of))]
 pub fn settings(m: &[u64; 143]) -> Settings
     ensures { result ≡ settings_of (word m.now) }
 {
@@ -191,16 +201,21 @@ pub fn values(m: &[u64; 143]) -> Values
     }
 }
 
+// The level: the lowest 8 bits of its word.
+#[inline]
+pub fn level(m: &[u64; 143]) -> u8
+    ensures { result ≡ level_of (word m.now) }
+{
+    (m[0x8E] % 0x100) as u8
+}
+
 // The event numbers.
-pub fn events(m: &[u64]) -> [u16; 31]
-    requires { length m.now ≡ word_count }
+pub fn events(m: &[u64; 143]) -> [u16; 31]
     ensures { result ≡ events_of m.now }
 {
     let mut events = [0u16; 31];
-    let mut i: usize = 0;
-    while i < 31 {
+    for i in 0..31 {
         events[i] = (m[0x40 + i] % 0x10000) as u16;
-        i += 1;
     }
     events
 }

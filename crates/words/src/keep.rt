@@ -1,13 +1,11 @@
 // What a call leaves beside the event counters and the counter enables, stored to the words.
-ghost use Rattle.std.specs.Prelude.{◌≡◌, length};
-ghost use Rattle.words.specs.Words.{word_count};
+ghost use Rattle.std.specs.Prelude.{◌≡◌};
 ghost use Rattle.words.specs.Put.{put_values};
 
 use machine::Values;
 
 // The overflow flags, the instruction counter, PMSICR_EL1 and the word at 0x838.
-pub fn values(m: &mut [u64], v: Values)
-    requires { length m.old ≡ word_count }
+pub fn values(m: &mut [u64; 143], v: Values)
     ensures { m.new ≡ put_values v m.old }
 {
     m[0x37] = v.ovs;

@@ -4,5 +4,4 @@ use Rattle.bits.proofs.Single.{bit_past}
 use Rattle.bits.proofs.bit.Goals as goal
 
 pub returns-then-m-ge64 : goal.returns-then-m-ge64
-returns-then-m-ge64 c = let at-start = c.before in
-    sym (bit_past 64 at-start.args.m at-start.ranges.x.fits c.if-m-ge64.true)
+returns-then-m-ge64 c = sym (bit_past 64 c.args.m c.ranges.x.fits c.if-m-ge64.true)

@@ -5,7 +5,7 @@ use Rattle.rules.specs.Apply.{apply}
 use Rattle.rules.specs.Step.{step, decide}
 use Rattle.state.specs.State.{view_at, view_of}
 use Rattle.undo.specs.Undo.{change_of}
-use Rattle.words.specs.Words.{word, level_of, counters_of, record_of}
+use Rattle.words.specs.Words.{counters_of, record_of}
 use Rattle.calls_access.specs.Access.{Did}
 use Rattle.calls_access.proofs.access.Goals as goal
 
@@ -15,6 +15,6 @@ returns c =
     let b = c.args.m.now in
     subst (λ (d : Decision). Did (apply d (record_of b)) (change_of d (record_of b)) b c.apply.result c.apply.new.m)
     (c.decide-d.ensures ∙ ap (λ v. decide v c.args.w c.args.x)
-    (c.view.ensures ∙ (λ i. view_at (level_of (word b)) (c.settings-s.ensures i) (counters_of b)
+    (c.view.ensures ∙ (λ i. view_at (c.level-level.ensures i) (c.settings-s.ensures i) (counters_of b)
     (c.values-v.ensures i).ovs)))
     c.apply.ensures

@@ -59,7 +59,7 @@ returns-in-Add c =
     let b = c.args.m.now in
     let s = c.args.s in
     let v = c.args.v in
-    let e = c.increment.ensures in
+    let e = c.increment-ovs.ensures in
     let mask = c.in-Add.mask in
     simp c.in-Add.is
     (record {

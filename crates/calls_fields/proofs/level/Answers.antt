@@ -1,11 +1,7 @@
 -- `level` meets its contract: refused, or the level's word takes it.
-use mathlib.Core.Path.{sym, subst}
 use native.Mathlib.Omega.{arith}
-use Rattle.answer.specs.declared.Answer.{Answer}
-use Rattle.fields.specs.Set.{set_level}
 use Rattle.fields.proofs.SetLaws.{level-large}
 use Rattle.words.specs.Words.{record_of}
-use Rattle.calls_fields.specs.Fields.{Made, words_levelled}
 use Rattle.calls_fields.proofs.Sets.{refused-made, level-made}
 use Rattle.calls_fields.proofs.level.Goals as goal
 
@@ -17,5 +13,4 @@ returns-then-l-gt-LEVEL c =
 pub returns : goal.returns
 returns c =
     let b = c.args.m.now in
-    subst (Made (set_level c.args.l (record_of b)) words_levelled b Answer.Ok) (sym c.put.ensures)
-    (level-made b c.put-arg-1.given.0.1 c.args.l (omega (arith, c.if-l-gt-LEVEL.false)))
+    level-made b (omega arith) c.args.l (omega (arith, c.if-l-gt-LEVEL.false))

@@ -6,4 +6,11 @@ use Rattle.calls_fields.proofs.pmsicr_after.Goals as goal
 pub returns : goal.returns
 unfolding store record_of settings_of
 returns c =
-    simp (c.pick-2.ensures, c.pick.ensures, c.started-begun.ensures)
+    simp (
+      c.pick-2.ensures,
+      c.pick.ensures,
+      c.started-begun.ensures,
+      c.on.ensures,
+      c.on-2.ensures,
+      c.on-3.ensures,
+    )

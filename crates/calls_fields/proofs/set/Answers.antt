@@ -1,38 +1,33 @@
 -- `set` meets its contract: refused with 3, refused with 4, or the field's word takes the value.
-use Prim.Native.Nat.{ℕ}
-use mathlib.Core.List.{List}
-use mathlib.Core.Path.{◌≡◌, sym, ◌∙◌, ap}
+use mathlib.Core.Path.{◌≡◌, refl, sym, ◌∙◌}
 use native.Mathlib.Omega.{arith}
-use lib.ListN.{set}
-use Rattle.fields.specs.Largest.{largest}
-use Rattle.fields.proofs.SetLaws.{set-unknown, set-large}
+use Rattle.fields.proofs.SetLaws.{known, set-unknown, set-large}
 use Rattle.words.specs.Words.{record_of}
 use Rattle.calls_fields.proofs.Sets.{field-small, refused-made, set-made}
 use Rattle.calls_fields.proofs.set.Goals as goal
 
-pub returns-then-most-eq0 : goal.returns-then-most-eq0
-returns-then-most-eq0 c =
+pub returns-in_default : goal.returns-in_default
+returns-in_default c =
     let b = c.args.m.now in
-    refused-made _ _ _ b
-    (sym (set-unknown c.args.f c.args.v (record_of b) (sym c.largest-most.ensures ∙ c.if-most-eq0.true)))
+    refused-made _ _ _ b (sym (set-unknown c.args.f c.args.v (record_of b) c.in_default.ensures))
 
 pub returns-then-f-v : goal.returns-then-f-v
 returns-then-f-v c =
     let b = c.args.m.now in
-    let field : largest c.args.f ≡ 0 → ⊥ = λ z. c.if-most-eq0.false (c.largest-most.ensures ∙ z) in
+    let k = known c.args.f _ c.in-Some.ensures in
     refused-made _ _ _ b
-    (sym (set-large c.args.f c.args.v (record_of b) field
-    (simp c.largest-most.ensures at c.if-f-v.true)))
+    (sym (set-large c.args.f c.args.v (record_of b) k.0
+    (simp k.1 at c.if-f-v.true)))
 
-pub put-requires : goal.put-requires
-put-requires c =
-    let field : largest c.args.f ≡ 0 → ⊥ = λ z. c.if-most-eq0.false (c.largest-most.ensures ∙ z) in
-    (c.put-arg-1.given.0.1, omega (arith, field-small c.args.f (omega (arith, c.ranges)) field))
+pub bounds-m-f : goal.bounds-m-f
+bounds-m-f c =
+    let k = known c.args.f _ c.in-Some.ensures in
+    omega (arith, field-small c.args.f (omega (arith, c.ranges)) k.0)
 
 pub returns : goal.returns
 returns c =
     let b = c.args.m.now in
-    let field : largest c.args.f ≡ 0 → ⊥ = λ z. c.if-most-eq0.false (c.largest-most.ensures ∙ z) in
-    set-made b c.put-arg-1.given.0.1 c.args.f c.args.v (omega (arith, c.ranges)) field
-    (simp c.largest-most.ensures at c.if-f-v.false) _ _ c.pmsicr_after-pmsicr.ensures
-    (ap (λ (l : List ℕ). set l 0x8C c.pmsicr_after-pmsicr.result) c.put.ensures)
+    let k = known c.args.f _ c.in-Some.ensures in
+    set-made b (omega arith) c.args.f c.args.v (omega (arith, c.ranges)) k.0
+    (simp k.1 at c.if-f-v.false) _ _ c.pmsicr_after-pmsicr.ensures
+    refl

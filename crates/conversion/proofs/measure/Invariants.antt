@@ -1,11 +1,8 @@
--- `conversion::measure`: what is measured and what remains is the whole, and the loop goes on towards the end of the bytes.
-use Prim.Native.Nat.{◌-◌}
-use lib.ListN.{length}
+-- `conversion::measure`: what is measured and what is left is the whole.
+use Rattle.command.specs.Command.{commands_in}
+use Rattle.command.specs.Left.{commands_left}
 use Rattle.conversion.proofs.Measuring.{Measuring}
 use Rattle.conversion.proofs.measure.Given as goal
 
-abbrev pub invariant-loop-r : goal.invariant-loop-r
-invariant-loop-r l = Measuring l.f l.g l.body l.at l.total
-
-abbrev pub decreases-loop-r : goal.decreases-loop-r
-decreases-loop-r l = length l.body - l.at
+abbrev pub invariant-loop-read : goal.invariant-loop-read
+invariant-loop-read l = Measuring l.g (commands_in l.fn.f l.body) (commands_left l.read-iterator) l.total

@@ -1,28 +1,40 @@
 -- `conversion::write_commands` meets its contract: its loop keeps the invariant, which at the end says the definition.
-use mathlib.Core.Path.{sym, ◌∙◌}
-use native.Mathlib.Omega.{arith}
-use Rattle.command.proofs.Place.{size-some-here}
-use Rattle.conversion.proofs.Writing.{command-fits, writing-end, writing-on}
+use Rattle.std.proofs.Common.{◌∷◌, ap, ◌∙◌, arith, length, length-append}
+use Rattle.command.specs.Left.{commands_left}
+use Rattle.encode.specs.Encode.{bytes_of}
+use Rattle.text.proofs.Writes.{writing-start, writing_on, writing-done}
+use Rattle.conversion.specs.Conversion.{bytes_in}
+use Rattle.conversion.proofs.Writing.{bytes-on, bytes-past}
 use Rattle.conversion.proofs.write_commands.Goals as goal
 
-pub write-end-requires : goal.write-end-requires
-write-end-requires c =
-    command-fits c.loop-f.invariant c.command_of-c.ensures
+pub loop-read-init : goal.loop-read-init
+loop-read-init c =
+    let whole = ap commands_left c.into_iter-read-iterator.ensures.into_iter_gives ∙ c.new-read-items.ensures in
+    rw whole writing-start
 
-pub returns-then-last : goal.returns-then-last
-returns-then-last c =
-    writing-end c.loop-f.invariant c.command_of-c.ensures c.write-end.ensures
-    (sym c.is_last-last.ensures ∙ c.if-last.true)
+pub write-requires : goal.write-requires
+write-requires c =
+    let front = bytes-on c.args.g (c.in-Some.ensures.steps ∙ ap (λ r. r ∷ commands_left c.next.new.self) c.in-Ok.is) in
+    omega (
+      arith,
+      c.requires,
+      c.loop-read.invariant.behind,
+      c.loop-read.invariant.same_length,
+      ap length front,
+      length-append (bytes_of c.args.g c.in-Ok.c) (bytes_in c.args.g (commands_left c.next.new.self)),
+    )
 
-pub loop-f-preserved : goal.loop-f-preserved
-loop-f-preserved c =
-    writing-on c.loop-f.invariant c.command_of-c.ensures c.write-end.ensures c.size_at-at.ensures
-    (sym c.is_last-last.ensures ∙ c.if-last.false)
+pub loop-read-preserved-in-Ok : goal.loop-read-preserved-in-Ok
+loop-read-preserved-in-Ok c =
+    writing_on c.loop-read.invariant
+    (bytes-on c.args.g (c.in-Some.ensures.steps ∙ ap (λ r. r ∷ commands_left c.next.new.self) c.in-Ok.is))
+    c.write.ensures
 
-pub loop-f-smaller : goal.loop-f-smaller
-loop-f-smaller c =
-    let some =
-    size-some-here c.args.f c.args.body.now c.loop-f.at c.command_of-c.ensures
-    c.size_at-at.ensures
-    (sym c.is_last-last.ensures ∙ c.if-last.false) in
-    omega (arith, (loop-f-preserved c).within, some)
+pub loop-read-preserved : goal.loop-read-preserved
+loop-read-preserved c =
+    let past = bytes-past c.args.g (c.in-Some.ensures.steps ∙ ap (λ r. r ∷ commands_left c.next.new.self) c.in_default.is) in
+    rw past at c.loop-read.invariant
+
+pub returns : goal.returns
+unfolding bytes_in
+returns c = writing-done c.loop-read.invariant (ap (bytes_in c.args.g) c.in-None.ensures.steps.0)

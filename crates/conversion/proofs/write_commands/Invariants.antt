@@ -1,11 +1,10 @@
--- `conversion::write_commands`: what is written and what remains to be is the whole, and the loop goes on towards the end.
-use Prim.Native.Nat.{◌-◌}
-use lib.ListN.{length}
-use Rattle.conversion.proofs.Writing.{Writing}
+-- `conversion::write_commands`: what is written and what is left to be is the whole.
+use Rattle.command.specs.Command.{commands_in}
+use Rattle.command.specs.Left.{commands_left}
+use Rattle.text.proofs.Writes.{Writing}
+use Rattle.conversion.specs.Conversion.{bytes_in}
 use Rattle.conversion.proofs.write_commands.Given as goal
 
-abbrev pub invariant-loop-f : goal.invariant-loop-f
-invariant-loop-f l = Writing l.f l.g l.body l.initial.out l.out l.start l.at l.end
-
-abbrev pub decreases-loop-f : goal.decreases-loop-f
-decreases-loop-f l = length l.body - l.at
+abbrev pub invariant-loop-read : goal.invariant-loop-read
+invariant-loop-read l =
+    Writing l.initial.w (bytes_in l.g (commands_in l.fn.f l.body)) l.w (bytes_in l.g (commands_left l.read-iterator))

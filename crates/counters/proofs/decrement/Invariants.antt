@@ -1,14 +1,9 @@
-use Rattle.std.proofs.Common.{◌≡◌, ◌-◌, ◌/◌, ◌^◌, ◌≤◌, length}
+use Rattle.std.proofs.Common.{◌≡◌, ◌/◌, ◌^◌}
 use Rattle.rules.proofs.Sweep.{sweep}
 use Rattle.counters.specs.Decremented.{decremented}
 use Rattle.counters.proofs.decrement.Given as goal
 
 abbrev pub invariant-loop-i : goal.invariant-loop-i
 invariant-loop-i l =
-    (l.i ≤ length l.initial.counters)
-    × (length l.counters ≡ length l.initial.counters)
-    × (l.counters ≡ sweep (decremented l.p5 l.events l.mask) l.i l.initial.counters)
+    (l.counters ≡ sweep (decremented l.p5 l.events l.mask) l.i l.initial.counters)
     × (l.rest ≡ l.mask / 2 ^ l.i)
-
-abbrev pub decreases-loop-i : goal.decreases-loop-i
-decreases-loop-i l = length l.initial.counters - l.i

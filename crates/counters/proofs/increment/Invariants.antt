@@ -1,4 +1,4 @@
-use Rattle.std.proofs.Common.{◌≡◌, ◌-◌, ◌/◌, ◌^◌, ◌≤◌, length}
+use Rattle.std.proofs.Common.{◌≡◌, ◌/◌, ◌^◌}
 use Rattle.rules.specs.Apply.{incremented}
 use Rattle.rules.proofs.Sweep.{sweep}
 use Rattle.counters.proofs.FlagTurns.{flagged}
@@ -6,11 +6,6 @@ use Rattle.counters.proofs.increment.Given as goal
 
 abbrev pub invariant-loop-i : goal.invariant-loop-i
 invariant-loop-i l =
-    (l.i ≤ length l.initial.counters)
-    × (length l.counters ≡ length l.initial.counters)
-    × (l.counters ≡ sweep (incremented l.s.features.p5 l.events l.mask) l.i l.initial.counters)
+    (l.counters ≡ sweep (incremented l.s.features.p5 l.events l.mask) l.i l.initial.counters)
     × (l.rest ≡ l.mask / 2 ^ l.i)
     × (l.flags ≡ flagged l.s l.events l.mask l.initial.counters l.ovs l.i)
-
-abbrev pub decreases-loop-i : goal.decreases-loop-i
-decreases-loop-i l = length l.initial.counters - l.i

@@ -1,15 +1,10 @@
--- `encode::put` meets its contract: what is stored and the bytes that are left are those of the whole number.
-use mathlib.Core.Path.{sym, ◌∙◌}
-use native.Mathlib.Omega.{arith}
-use Rattle.encode.proofs.Bytes.{length-little-bytes, bytes-done}
+-- `encode::put` meets its contract: the bytes of the whole number begin with the low ones.
+use Rattle.std.proofs.Common.{subst, ap, ◌∙◌, List, ℕ, take}
+use Rattle.text.specs.Wrote.{Wrote}
+use Rattle.encode.proofs.Bytes.{low-bytes}
 use Rattle.encode.proofs.put.Goals as goal
 
 pub returns : goal.returns
 returns c =
-    let done =
-    bytes-done c.loop-left.out c.loop-left.next c.loop-left.left c.loop-left.rest
-    (omega (arith, c.loop-left-test.false)) in
-    record {
-      stored = sym (c.loop-left.invariant.2 ∙ done);
-      behind = omega (arith, c.loop-left-test.false, length-little-bytes c.args.k c.args.n);
-    }
+    let low = ap (take c.args.k) c.to_le_bytes.ensures ∙ low-bytes c.args.k c.args.n c.requires.0 in
+    subst (λ (b : List ℕ). Wrote c.args.w.now b c.bytes.new.self) low c.bytes.ensures

@@ -1,41 +1,14 @@
--- `encode::write` meets its contract: three numbers, one behind the other.
-use mathlib.Core.Path.{◌∙◌, sym, ap}
-use native.Mathlib.Omega.{arith}
-use lib.ListN.{length}
-use Rattle.encode.proofs.Bytes.{laid-length, length-little-bytes, laid-written}
+-- `encode::write` meets its contract: the commands with two operands, one written behind the other.
+use Rattle.encode.specs.Encode.{bytes_of}
+use Rattle.text.proofs.Writes.{wrote_on}
 use Rattle.encode.proofs.write.Goals as goal
 
-pub put-first-requires : goal.put-first-requires
-put-first-requires c =
-    let whole = sym (laid-length c.layout_of-l.result) ∙ ap length c.layout_of-l.ensures in
-    omega (arith, whole, c.requires)
+pub returns-in-Access : goal.returns-in-Access
+unfolding bytes_of
+returns-in-Access c =
+    rw c.in-Access.is (wrote_on c.byte-in-Access.ensures (wrote_on c.put-in-Access.ensures c.put-in-Access-2.ensures))
 
-pub put-second-requires : goal.put-second-requires
-put-second-requires c =
-    let l = c.layout_of-l.result in
-    let whole = sym (laid-length l) ∙ ap length c.layout_of-l.ensures in
-    let own = length-little-bytes l.command.bytes l.command.number in
-    omega (arith, whole, own, c.requires, c.put-first.ensures.behind, c.put-first.auto.out)
-
-pub put-requires : goal.put-requires
-put-requires c =
-    let l = c.layout_of-l.result in
-    let whole = sym (laid-length l) ∙ ap length c.layout_of-l.ensures in
-    let own = length-little-bytes l.command.bytes l.command.number in
-    let first = length-little-bytes l.first.bytes l.first.number in
-    omega (
-      arith,
-      whole,
-      own,
-      first,
-      c.requires,
-      c.put-first.ensures.behind,
-      c.put-first.auto.out,
-      c.put-second.ensures.behind,
-      c.put-second.auto.out,
-    )
-
-pub returns : goal.returns
-returns c =
-    laid-written c.layout_of-l.result c.layout_of-l.ensures c.put-first.ensures
-    c.put-second.ensures c.put.ensures
+pub returns-in-Write : goal.returns-in-Write
+unfolding bytes_of
+returns-in-Write c =
+    rw c.in-Write.is (wrote_on c.byte-in-Write.ensures (wrote_on c.put-in-Write.ensures c.put-in-Write-2.ensures))

@@ -10,4 +10,4 @@ unfolding external_read
 returns c =
     let s = c.args.m.now in
     called-reply _ (call_of (external_read c.args.offset) s) s _ _ c.respond.ensures refl _
-    c.reply_of.ensures
+    c.from.ensures

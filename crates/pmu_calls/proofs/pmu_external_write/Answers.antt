@@ -10,4 +10,4 @@ unfolding external_write
 returns c =
     let s = c.args.m.now in
     called-reply _ (call_of (external_write c.args.offset c.args.value) s) s _ _
-    c.respond.ensures refl _ c.reply_of.ensures
+    c.respond.ensures refl _ c.from.ensures

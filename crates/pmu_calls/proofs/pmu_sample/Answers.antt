@@ -9,4 +9,4 @@ pub returns : goal.returns
 unfolding member
 returns c =
     let s = c.args.m.now in
-    called-reply _ (call_of (member c.args.draw) s) s _ _ c.respond.ensures refl _ c.reply_of.ensures
+    called-reply _ (call_of (member c.args.draw) s) s _ _ c.respond.ensures refl _ c.from.ensures

@@ -1,5 +1,5 @@
 -- `undo::settings_before` meets its contract: a case for each branch.
-use borrow.Author.Tests.{eq-eqb}
+use Rattle.std.proofs.lemmas.Bool.{eq-eqb}
 use Rattle.store.specs.Store.{store_settings, store_features, store_mdcr2, store_mdcr3, store_pmuacr, store_sampling}
 use Rattle.undo.proofs.settings_before.Goals as goal
 

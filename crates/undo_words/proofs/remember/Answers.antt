@@ -16,7 +16,7 @@ returns c =
     let m = c.put.new.list in
     let n = get_or l 0 0 in
     let at = c.next-at.result in
-    let count : min c.more-n.result capacity ≡ min (n + 1) capacity = omega (arith, c.more-n.ensures) in
+    let count : min c.min-n.result capacity ≡ min (n + 1) capacity = omega (arith, c.min-n.ensures, c.used.ensures) in
     let place : (at + 1) % 64 % 64 ≡ after at = omega arith in
     let inside : at < 64 = omega (arith, c.next-at.ensures) in
     c.mark.ensures

@@ -2,16 +2,13 @@
 use Rattle.pmu_calls.proofs.Back.{nothing, latest-of}
 use Rattle.pmu_calls.proofs.listed.pmu_back.Goals as goal
 
-pub returns-in-Nothing : goal.returns-in-Nothing
-returns-in-Nothing c =
-    let recalled = c.recall-latest.ensures in
-    nothing c.args.m.now c.args.list.now _ _ recalled.0 recalled.1
-    c.in-Nothing.is _ c.refused.ensures
+pub returns-in-None : goal.returns-in-None
+returns-in-None c =
+    let recalled = c.in-None.ensures in
+    nothing c.args.m.now c.args.list.now _ recalled.1 recalled.0 _ c.refused.ensures
 
-pub returns-in-Latest : goal.returns-in-Latest
-returns-in-Latest c =
-    let recalled = c.recall-latest.ensures in
+pub returns-in-Some : goal.returns-in-Some
+returns-in-Some c =
+    let recalled = c.in-Some.ensures in
     let there = c.undone.ensures in
-    latest-of c.args.m.now c.args.list.now _ _ recalled.0 recalled.1 _
-    c.in-Latest.is _ there.0 there.1 _
-    c.done.ensures
+    latest-of c.args.m.now c.args.list.now _ recalled.1 _ recalled.0 _ there.0 there.1 _ c.done.ensures

@@ -12,6 +12,6 @@ returns c =
     let s = c.args.m.now in
     let called = c.respond-a.ensures in (
       called-reply _ (call_of (external_write c.args.offset c.args.value) s) s _ _ called refl _
-          c.reply_of.ensures,
+          c.from.ensures,
       write-listed s _ _ _ _ c.note.ensures _ _ called.answered c.kept-u.ensures,
     )

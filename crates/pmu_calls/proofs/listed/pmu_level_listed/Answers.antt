@@ -7,6 +7,6 @@ pub returns : goal.returns
 returns c =
     let s = c.args.m.now in
     let made = c.level-a.ensures in (
-      made-reply _ _ s _ _ made _ c.reply_of.ensures,
+      made-reply _ _ s _ _ made _ c.from.ensures,
       level-listed s _ _ _ _ c.note.ensures _ made.answered c.kept-u.ensures,
     )

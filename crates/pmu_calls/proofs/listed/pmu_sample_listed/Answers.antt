@@ -11,6 +11,6 @@ unfolding member
 returns c =
     let s = c.args.m.now in
     let called = c.respond-a.ensures in (
-      called-reply _ (call_of (member c.args.draw) s) s _ _ called refl _ c.reply_of.ensures,
+      called-reply _ (call_of (member c.args.draw) s) s _ _ called refl _ c.from.ensures,
       member-listed s _ _ _ _ c.note.ensures _ called.answered c.kept-u.ensures,
     )

@@ -8,6 +8,6 @@ pub returns : goal.returns
 returns c =
     let s = c.args.m.now in
     let made = c.set-a.ensures in (
-      made-reply _ _ s _ _ made _ c.reply_of.ensures,
+      made-reply _ _ s _ _ made _ c.from.ensures,
       set-emptied (record_of s) _ _ _ _ _ made.answered c.forget.ensures,
     )

@@ -9,6 +9,6 @@ pub returns : goal.returns
 returns c =
     let s = c.args.m.now in
     let called = c.tick-a.ensures in (
-      called-reply _ (tick_call c.args.prohibited s) s _ _ called refl _ c.reply_of.ensures,
+      called-reply _ (tick_call c.args.prohibited s) s _ _ called refl _ c.from.ensures,
       tick-listed s _ _ _ _ c.note.ensures c.args.prohibited called.answered c.kept-u.ensures,
     )

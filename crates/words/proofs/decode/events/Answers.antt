@@ -1,25 +1,17 @@
--- `events` meets its contract: after i turns the first i event numbers are those of the words.
-use mathlib.Core.Path.{◌≡◌, sym, ◌∙◌, ap}
+-- `events` meets its contract: each event number is the lowest 16 bits of its word.
+use Prim.Native.Nat.{◌+◌}
+use mathlib.Core.List.{map}
+use mathlib.Core.Path.{sym, ◌∙◌, ap}
 use native.Mathlib.Omega.{arith}
-use lib.ListN.{take, length-set}
-use lib.Seq.{take_all}
-use Rattle.words.specs.Words.{events_of}
-use Rattle.words.proofs.Run.{events-long, event-turn}
+use lib.ListN.{get_or}
+use Rattle.std.proofs.Common.{rules}
+use Rattle.std.proofs.lemmas.List.FromFn.{fill_by_all}
+use Rattle.words.specs.Words.{low}
+use Rattle.words.proofs.Run.{run}
 use Rattle.words.proofs.decode.events.Goals as goal
-
-pub loop-i-preserved : goal.loop-i-preserved
-loop-i-preserved c = (
-  omega arith,
-  simp length-set c.loop-i.invariant.1,
-  event-turn c.args.m.now c.requires c.loop-i.events c.loop-i.i c.loop-i.invariant.1
-      c.loop-i-test.true c.loop-i.invariant.2,
-)
 
 pub returns : goal.returns
 returns c =
-    let e : c.loop-i.i ≡ 31 = omega (arith, c.loop-i-test.false, c.loop-i.invariant.0) in
-    sym (take_all 31 c.loop-i.events (omega (arith, c.loop-i.invariant.1)))
-    ∙ ap (λ n. take n c.loop-i.events) (sym e)
-    ∙ c.loop-i.invariant.2
-    ∙ ap (λ n. take n (events_of c.args.m.now)) e
-    ∙ take_all 31 (events_of c.args.m.now) (omega (arith, events-long c.args.m.now c.requires))
+    let s = c.args.m.now in
+    fill_by_all (λ k. low (get_or s (0x40 + k) 0)) c.loop-i.events 31 0 c.loop-i.invariant.0 (search rules)
+    ∙ sym (ap (map low) (run s 0x40 31 (omega arith)))

@@ -1,2 +1,0 @@
--- What is proved of the measured loop.
-pub mod Total
