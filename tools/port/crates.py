@@ -1,6 +1,6 @@
 #!/usr/bin/env python3
-"""Gives the crates of the last landed commit the names that the unfinished work on top of it gave them (7bf8b11), so that a folder
-with that commit, turned by the kit's port/port.py, can be laid beside this repository.
+"""Gives the crates of the last landed commit the names that the unfinished work on top of it gave them (7bf8b11), so that a
+folder with that commit, turned by the kit's port/port.py, can be laid beside this repository.
 
 usage: python3 crates.py       at the top of that folder, after port.py and before respell.py
 """
