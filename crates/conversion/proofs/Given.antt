@@ -14,10 +14,9 @@ use Rattle.command.specs.declared.Command.{Command}
 use Rattle.form.specs.declared.Form.{Form}
 use Rattle.command.specs.Command.{command_of, commands_in, commands_of}
 use Rattle.form.specs.Form.{head_of, form_of, body_of, longest}
-use Rattle.encode.specs.Encode.{bytes_of}
+use Rattle.encode.specs.Encode.{bytes_of, read_bytes}
 use Rattle.conversion.specs.Conversion.{
   other_form,
-  read_bytes,
   bytes_in,
   session_in,
   bad_of,

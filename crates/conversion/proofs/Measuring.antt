@@ -7,9 +7,29 @@ use Rattle.form.specs.declared.Form.{Form}
 use Rattle.form.specs.Form.{longest}
 use Rattle.command.specs.Command.{command_of, commands_from, commands_in}
 use Rattle.command.proofs.Fuel.{commands-few}
-use Rattle.encode.specs.Encode.{bytes_of}
-use Rattle.conversion.specs.Conversion.{bytes_in, bad_in}
+use Rattle.encode.specs.Encode.{value_bytes, bytes_of, read_bytes}
+use Rattle.encode.proofs.Bytes.{length-little-bytes, few-value-bytes}
+use Rattle.conversion.specs.Conversion.{bytes_in, bad_of, bad_in}
 use Rattle.conversion.specs.Call.{first_or_bytes, measure_of}
+
+-- what was read has 13 bytes or fewer
+pub few_bytes : (f : Form) (c : Result Command Refusal) → length (read_bytes f c) ≤ 13
+unfolding bytes_of
+few_bytes f (Ok Command.End) = omega arith
+few_bytes f (Ok (Command.Set a v)) = omega (arith, few-value-bytes f v, length-little-bytes (value_bytes f v) v)
+few_bytes f (Ok (Command.Level l)) = omega arith
+few_bytes f (Ok (Command.Access w x)) = omega arith
+few_bytes f (Ok (Command.Read o)) = omega arith
+few_bytes f (Ok (Command.Write o x)) = omega arith
+few_bytes f (Ok (Command.Tick p)) = omega arith
+few_bytes f (Ok Command.Back) = omega arith
+few_bytes f (Ok (Command.Member d)) = omega arith
+few_bytes f (Err r) = omega arith
+
+-- what is a command met no refusal
+pub not-bad : (c : Result Command Refusal) → ((r : Refusal) → c ≡ Err r → ⊥) → bad_of c ≡ []
+not-bad (Ok c) t = refl
+not-bad (Err r) t = absurd (t r refl)
 
 -- the first command comes first
 pub first : (f : Form) (s : List ℕ) → (cs : List (Result Command Refusal)) × (commands_in f s ≡ command_of f s ∷ cs)

@@ -15,9 +15,9 @@ use Rattle.command.specs.Command.{operand_bytes, command_with, command_of, size_
 use Rattle.form.specs.Sets.{is_unknown}
 use Rattle.command.proofs.Front.{front-cases}
 use Rattle.command.proofs.Sizes.{size-bounds}
-use Rattle.encode.specs.Encode.{bytes_of, value_bytes}
+use Rattle.encode.specs.Encode.{bytes_of, read_bytes, value_bytes}
 use Rattle.encode.proofs.Bytes.{length-little-bytes, few-value-bytes}
-use Rattle.conversion.specs.Conversion.{read_bytes, bytes_in}
+use Rattle.conversion.specs.Conversion.{bytes_in}
 
 -- a command has no more bytes in the short form than its own and n of operands
 Within : Result Command Refusal → ℕ → Type 0

@@ -6,17 +6,12 @@ use Rattle.command.specs.declared.Command.{Command}
 use Rattle.form.specs.declared.Form.{Form}
 use Rattle.command.specs.Command.{commands_of}
 use Rattle.form.specs.Form.{head_of, form_of, body_of, longest}
-use Rattle.encode.specs.Encode.{bytes_of}
+use Rattle.encode.specs.Encode.{read_bytes}
 
 -- MODEL Z4: the form that a session is converted to
 abbrev pub other_form : Form → Form
 other_form Form.Long = Form.Short
 other_form Form.Short = Form.Long
-
--- MODEL S1 and Z4: the bytes of what was read; what is no command has none
-abbrev pub read_bytes : Form → Result Command Refusal → List ℕ
-read_bytes f (Ok c) = bytes_of f c
-read_bytes f (Err r) = []
 
 -- MODEL Z4: commands in a form, one behind the other
 unfoldable pub bytes_in : Form → List (Result Command Refusal) → List ℕ

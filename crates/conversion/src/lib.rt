@@ -33,7 +33,7 @@ fn measure(f: Form, g: Form, body: &[u8]) -> Result<usize, Refusal>
 {
     let mut total: usize = 0;
     for read in Commands::new(f, body) {
-        total += encode::size(g, read?);
+        total += encode::size(g, Ok(read?));
     }
     Ok(total)
 }
@@ -55,9 +55,7 @@ fn write_commands(w: &mut Writer<'_>, f: Form, g: Form, body: &[u8])
     ensures { Wrote w.old (bytes_in g (commands_in f body.now)) w.new }
 {
     for read in Commands::new(f, body) {
-        if let Ok(c) = read {
-            encode::write(w, g, c);
-        }
+        encode::write(w, g, read);
     }
 }
 

@@ -1,5 +1,6 @@
 -- The bytes of a command in each form.
-use Rattle.std.specs.Prelude.{ℕ, cond, List, [], ◌∷◌, ◌++◌, eqb}
+use Rattle.std.specs.Prelude.{ℕ, cond, List, [], ◌∷◌, ◌++◌, eqb, Result, Ok, Err}
+use Rattle.answer.specs.declared.Refusal.{Refusal}
 use Rattle.command.specs.declared.Command.{Command}
 use Rattle.form.specs.declared.Form.{Form}
 use Rattle.form.specs.Sets.{narrowest}
@@ -27,3 +28,8 @@ bytes_of f (Command.Write o x) = 0x05 ∷ (little_bytes 2 o ++ little_bytes 8 x)
 bytes_of f (Command.Tick p) = 0x06 ∷ little_bytes 1 p
 bytes_of f Command.Back = 0x07 ∷ []
 bytes_of f (Command.Member d) = 0x08 ∷ little_bytes 1 d
+
+-- MODEL S1 and Z4: the bytes of what was read; what is no command has none
+abbrev pub read_bytes : Form → Result Command Refusal → List ℕ
+read_bytes f (Ok c) = bytes_of f c
+read_bytes f (Err r) = []

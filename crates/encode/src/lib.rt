@@ -1,11 +1,12 @@
-// A command as bytes, in either form of a session.
+// A command as bytes, in either form of a session: its size, and the bytes written. What was read and is no command has none.
 #![tactic(auto)]
 
 ghost use Rattle.std.specs.Prelude.{◌≡◌, ◌+◌, ◌≤◌, length};
 ghost use Rattle.command.specs.Operand.{little_bytes};
 ghost use Rattle.text.specs.Wrote.{HasRoom, Wrote};
-ghost use Rattle.encode.specs.Encode.{value_bytes, set_byte, bytes_of};
+ghost use Rattle.encode.specs.Encode.{value_bytes, set_byte, bytes_of, read_bytes};
 
+use answer::Refusal;
 use command::Command;
 use form::Form;
 use text::Writer;
@@ -33,7 +34,7 @@ fn set_byte(k: usize) -> u8
 
 // How many bytes a command has in a form.
 #[tactic(auto, unfolding(crate::specs::Encode::bytes_of))]
-pub fn size(f: Form, c: Command) -> usize
+fn command_size(f: Form, c: Command) -> usize
     ensures { (result ≡ length (bytes_of f c)) × (result ≤ 13) }
 {
     match c {
@@ -43,6 +44,16 @@ pub fn size(f: Form, c: Command) -> usize
         Command::Access { .. } => 13,
         Command::Read { .. } => 3,
         Command::Write { .. } => 11,
+    }
+}
+
+// How many bytes what was read has in a form: those of a command, and none where reading it met a refusal.
+pub fn size(f: Form, read: Result<Command, Refusal>) -> usize
+    ensures { (result ≡ length (read_bytes f read)) × (result ≤ 13) }
+{
+    match read {
+        Ok(c) => command_size(f, c),
+        Err(_) => 0,
     }
 }
 
@@ -56,7 +67,7 @@ fn put(w: &mut Writer<'_>, k: usize, n: u64)
 
 // Writes a command in a form.
 #[tactic(auto, unfolding(crate::specs::Encode::bytes_of))]
-pub fn write(w: &mut Writer<'_>, f: Form, c: Command)
+fn write_command(w: &mut Writer<'_>, f: Form, c: Command)
     requires { HasRoom w.old (length (bytes_of f c)) }
     ensures { Wrote w.old (bytes_of f c) w.new }
 {
@@ -95,5 +106,15 @@ pub fn write(w: &mut Writer<'_>, f: Form, c: Command)
             w.byte(0x08);
             put(w, 1, draw as u64);
         }
+    }
+}
+
+// Writes what was read in a form: a command, and nothing where reading it met a refusal.
+pub fn write(w: &mut Writer<'_>, f: Form, read: Result<Command, Refusal>)
+    requires { HasRoom w.old (length (read_bytes f read)) }
+    ensures { Wrote w.old (read_bytes f read) w.new }
+{
+    if let Ok(c) = read {
+        write_command(w, f, c);
     }
 }

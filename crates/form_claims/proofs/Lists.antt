@@ -12,7 +12,8 @@ use Rattle.form.specs.declared.Form.{Form}
 use Rattle.command.specs.Command.{command_of, size_at, is_last, commands_from, commands_in}
 use Rattle.command.proofs.Fuel.{commands-last, commands-on}
 use Rattle.command.proofs.Sizes.{size-bounds}
-use Rattle.conversion.specs.Conversion.{read_bytes, bytes_in, bad_of, bad_in}
+use Rattle.encode.specs.Encode.{read_bytes}
+use Rattle.conversion.specs.Conversion.{bytes_in, bad_of, bad_in}
 use Rattle.conversion.proofs.Given.{never, none_both}
 use Rattle.form_claims.specs.Claims.{AreBytes, read_from}
 use Rattle.form_claims.proofs.Bounded.{front_fits}

@@ -16,9 +16,9 @@ use Rattle.command.specs.Command.{operand_bytes, set_of, command_with, command_o
 use Rattle.form.specs.Sets.{is_unknown, narrowest}
 use Rattle.command.specs.Operand.{operand, little_bytes}
 use Rattle.form.proofs.Width.{narrowest-1}
-use Rattle.encode.specs.Encode.{set_byte, bytes_of}
+use Rattle.encode.specs.Encode.{set_byte, bytes_of, read_bytes}
 use Rattle.command.proofs.Front.{front-cases}
-use Rattle.conversion.specs.Conversion.{read_bytes, bad_of}
+use Rattle.conversion.specs.Conversion.{bad_of}
 use Rattle.conversion.proofs.Given.{never}
 use Rattle.form_claims.specs.Claims.{AreBytes}
 use Rattle.form_claims.proofs.Numbers.{operand-bound, operands-back}

@@ -14,10 +14,9 @@ use Rattle.form.specs.declared.Form.{Form}
 use Rattle.command.specs.Command.{commands_in, commands_of}
 use Rattle.form.specs.Form.{head_of, form_of, body_of, longest}
 use Rattle.command.specs.Operand.{little_bytes}
-use Rattle.encode.specs.Encode.{value_bytes, bytes_of}
+use Rattle.encode.specs.Encode.{value_bytes, bytes_of, read_bytes}
 use Rattle.encode.proofs.Bytes.{length-little-bytes, few-value-bytes}
 use Rattle.conversion.specs.Conversion.{
-  read_bytes,
   other_form,
   bytes_in,
   session_in,

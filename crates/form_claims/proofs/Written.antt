@@ -15,8 +15,7 @@ use Rattle.command.specs.Command.{operand_bytes, set_of, command_with, command_o
 use Rattle.form.specs.Sets.{is_unknown, narrowest}
 use Rattle.command.specs.Operand.{little_bytes}
 use Rattle.form.proofs.Width.{narrowest-1, narrowest-4, narrowest-8}
-use Rattle.conversion.specs.Conversion.{read_bytes}
-use Rattle.encode.specs.Encode.{value_bytes, set_byte, bytes_of}
+use Rattle.encode.specs.Encode.{value_bytes, set_byte, bytes_of, read_bytes}
 use Rattle.encode.proofs.Bytes.{length-little-bytes}
 use Rattle.form_claims.proofs.Numbers.{first_read, second-read}
 

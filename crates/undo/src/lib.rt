@@ -91,11 +91,11 @@ pub fn typed(counters: &[u64])
 }
 
 // The settings with the counter enables put back, where they were kept.
-fn settings_before(c: Change, s: Settings) -> Settings
+fn settings_before(c: Change, mut s: Settings) -> Settings
     ensures { result ≡ settings_before c s }
 {
     if c.field == 0x34 {
-        return Settings { cnten: c.old, ..s };
+        s.cnten = c.old;
     }
     s
 }
@@ -104,11 +104,12 @@ fn settings_before(c: Change, s: Settings) -> Settings
 fn counters_before(c: Change, p5: bool, events: &[u16; 31], mut counters: [u64; 31]) -> [u64; 31]
     ensures { result ≡ counters_before c p5 events.now counters }
 {
-    if c.field == INCREMENTS {
-        counters::decrement(&mut counters, events, p5, c.old);
-        return counters;
+    match c.field {
+        INCREMENTS => counters::decrement(&mut counters, events, p5, c.old),
+        0x60..=0x7E => counters[(c.field - 0x60) as usize] = c.old,
+        _ => {}
     }
-    store::counters(counters, c.field, c.old)
+    counters
 }
 
 // What is kept of a command: a field and what it held, the level and the overflow flags.
@@ -122,20 +123,26 @@ pub fn kept(field: u8, old: u64, level: u8, ovs: u64) -> Undo
     }
 }
 
-// The record with what was kept of a command put back.
+// The record with what was kept of a command put back. Its parts stand in locals, and what changes one is given it to change: a
+// step back in a session took nearly a third more instructions where a part was taken from the record in its place, or was made
+// anew (docs/PERFORMANCE.md, "With today's kit").
 #[tactic(auto, unfolding(crate::specs::Undo::undone))]
 pub fn undone(u: Undo, r: Machine) -> Machine
     ensures { result ≡ undone u r }
 {
     let c = u.change;
+    let settings = r.settings;
+    let events = r.events;
+    let counters = r.counters;
+    let values = r.values;
     Machine {
         level: u.level,
-        settings: settings_before(c, r.settings),
-        events: r.events,
-        counters: counters_before(c, r.settings.features.p5, &r.events, r.counters),
+        settings: settings_before(c, settings),
+        events,
+        counters: counters_before(c, settings.features.p5, &events, counters),
         values: Values {
             ovs: u.ovs,
-            ..store::values(r.values, c.field, c.old)
+            ..store::values(values, c.field, c.old)
         },
     }
 }

@@ -11,7 +11,7 @@ module _ (f : ℕ → ℕ) where
   from (suc n) i zero h = ap f (sym (add-zero i))
   from (suc n) i (suc k) h = from n (suc i) k (le_of_suc-le-suc h) ∙ ap f (suc-add i k ∙ sym (add-suc i k))
 
-  at : (n k : ℕ) → k < n → get_or (tabulate f n 0) k 0 ≡ f k
+  pub at : (n k : ℕ) → k < n → get_or (tabulate f n 0) k 0 ≡ f k
   at n k h = from n 0 k h ∙ ap f (zero-add k)
 
 pub entry : (k : ℕ) → k < 256 → get_or codes k 0 ≡ code_at k

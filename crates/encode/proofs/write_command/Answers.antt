@@ -1,7 +1,7 @@
--- `encode::write` meets its contract: the commands with two operands, one written behind the other.
+-- `encode::write_command` meets its contract: the commands with two operands, one written behind the other.
 use Rattle.encode.specs.Encode.{bytes_of}
 use Rattle.text.proofs.Writes.{wrote_on}
-use Rattle.encode.proofs.write.Goals as goal
+use Rattle.encode.proofs.write_command.Goals as goal
 
 pub returns-in-Access : goal.returns-in-Access
 unfolding bytes_of
