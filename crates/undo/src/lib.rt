@@ -124,7 +124,7 @@ pub fn kept(field: u8, old: u64, level: u8, ovs: u64) -> Undo
 }
 
 // The record with what was kept of a command put back. Its parts stand in locals, and what changes one is given it to change: a
-// step back in a session took nearly a third more instructions where a part was taken from the record in its place, or was made
+// step back in a session took nearly a third more instructions where parts were taken from the record in their places and made
 // anew (docs/PERFORMANCE.md, "With today's kit").
 #[tactic(auto, unfolding(crate::specs::Undo::undone))]
 pub fn undone(u: Undo, r: Machine) -> Machine
