@@ -100,8 +100,8 @@ fn settings_before(c: Change, mut s: Settings) -> Settings
     s
 }
 
-// The event counters with what was kept of them put back. The one counter is stored here, and not by `store::counters`, by which a
-// step back in a session takes 41 instructions more.
+// The event counters with what was kept of them put back. The one counter is stored here, and not by `store::counters`, by which
+// a step back in a session takes 41 instructions more.
 fn counters_before(c: Change, p5: bool, events: &[u16; 31], mut counters: [u64; 31]) -> [u64; 31]
     ensures { result ≡ counters_before c p5 events.now counters }
 {
